@@ -156,10 +156,10 @@ def gap_between(covering, covered, after, gaps_after):
     for state, gain in covered.values():
         least = None
         for other, its_gain in covering.values():
-            behind = gaps_after[after.places[other]][after.places[state]]
-            if behind is None:
+            following = gaps_after[after.places[other]][after.places[state]]
+            if following is None:
                 continue
-            need = gain + behind - its_gain
+            need = gain + following - its_gain
             if least is None or need < least:
                 least = need
         if least is None:
@@ -196,9 +196,9 @@ def solve_back(program, layers):
         if after is None:
             rough, gaps = [0 for _ in states], [[0 for _ in states] for _ in states]
         else:
-            moves, behind = layer.moves, gaps
+            moves, following = layer.moves, gaps
             rough = rough_bounds(layer, after, rough)
-            gaps = [[gap_between(moves[a], moves[s], after, behind) for s in states] for a in states]
+            gaps = [[gap_between(moves[a], moves[s], after, following) for s in states] for a in states]
         merges = [[merge_of(program, layer, gaps, x, s) for s in states] for x in states]
         tables.append((rough, gaps, merges))
         after = layer
@@ -235,12 +235,12 @@ def make(program):
     root_value = whole(getattr(program, "root_value", 0), "root_value")
     layers = enumerate_layers(program)
     tables = solve_back(program, layers)
-    behind = layers[1:] + [None]
+    following = layers[1:] + [None]
     document = {
         "root_value": root_value,
         "layers": [
             table_of_layer(layer, after, *table)
-            for layer, after, table in zip(layers, behind, tables)
+            for layer, after, table in zip(layers, following, tables)
         ],
     }
     return document, layers

@@ -8,7 +8,7 @@ use Rattle.bound_cover.specs.Verdicts.{checked, verdict}
 use Rattle.bound_cover.specs.declared.cover.Verdict.{Verdict}
 use Rattle.bound_cover.proofs.Sound.{accepted-is-near, accepted-none}
 use Rattle.cover_text.specs.Grammar.{Fails}
-use Rattle.cover_text.specs.Texts.{CoverTextView, OpenView, and_then, cover_behind, held_with, opened, text_of, verdict_behind}
+use Rattle.cover_text.specs.Texts.{CoverTextView, OpenView, and_then, cover_after, held_with, opened, text_of, verdict_after}
 use Rattle.cover_text.specs.declared.cover_error.CoverError.{CoverError}
 use Rattle.cover_text.specs.declared.cover_error.CoverError.TheVariants.{Text, Word, OutOfMemory}
 use Rattle.problem_names.specs.declared.part.PartNumber.{PartNumber}
@@ -25,11 +25,11 @@ made-then : {A B : Type 0} (read : Result A CoverError) (f : A → B) (fine : B 
 made-then (Ok x) f fine fault h = h
 made-then (Err e) f fine fault h = h
 
--- what is right behind a text's first part is right for the text
+-- what is right after a text's first part is right for the text
 pub opened-checked : (bytes : List ℕ) (o : OpenView) (answer : Answer) → opened bytes ≡ Ok o → ChecksOpened (theory_of o.model) o answer → IsChecked bytes answer
 unfolding text_of
 opened-checked bytes o answer is h =
-    rw is (made-then (cover_behind o.before o.behind) (held_with o) (λ held. ChecksText (theory_of held.model) held answer) (λ e. RefusesCover e answer) h)
+    rw is (made-then (cover_after o.before o.following) (held_with o) (λ held. ChecksText (theory_of held.model) held answer) (λ e. RefusesCover e answer) h)
 
 -- ---- want of memory
 
@@ -78,8 +78,8 @@ module _ (dp : Dp) (own : List ℕ → Option ℤ) (laws : IsLawful dp) (agrees 
   of-cover (Err e) is = absurd (cc)
 
   -- the verdict on the sections is right
-  pub verdict-given : verdict_behind dp o ≡ Ok given → ToSections o (λ cover. Checks dp own (held_with o cover)) (answers.Checked given)
-  verdict-given is = of-cover (cover_behind o.before o.behind) is
+  pub verdict-given : verdict_after dp o ≡ Ok given → ToSections o (λ cover. Checks dp own (held_with o cover)) (answers.Checked given)
+  verdict-given is = of-cover (cover_after o.before o.following) is
 
 -- what is right for the part that is meant, or for the whole problem
 pub is-meant : (dp : Dp) (own : List ℕ → Option ℤ) (o : OpenView) (meant : Option PartNumber) (answer : Answer) → o.part ≡ meant

@@ -120,9 +120,9 @@ whole-printed outcome counts name part instance cover text final e =
 pub whole-made : (name : ModelName) (part : Option PartNumber) (size : ℕ) (instance nothing head body both text : List ℕ) (cover : List (List CoverRow)) → nothing ≡ [] → head ≡ nothing ++ printed_lines (cover_lines name part size) → both ≡ head ++ body → text ≡ both ++ printed_cover cover
     → body ≡ instance → size ≡ length instance → text ≡ printed_whole name part instance cover
 whole-made name part size instance nothing head body both text cover none lines more sections same long =
-    let behind = body ++ printed_cover cover in
+    let following = body ++ printed_cover cover in
     let begun : head ≡ printed_lines (cover_lines name part size) = lines ∙ ap (λ z. z ++ printed_lines (cover_lines name part size)) none in
-    sections ∙ (ap (λ z. z ++ printed_cover cover) more ∙ (append_assoc head body (printed_cover cover) ∙ (ap (λ z. z ++ behind) begun
+    sections ∙ (ap (λ z. z ++ printed_cover cover) more ∙ (append_assoc head body (printed_cover cover) ∙ (ap (λ z. z ++ following) begun
     ∙ (ap (λ z. printed_lines (cover_lines name part size) ++ (z ++ printed_cover cover)) same ∙ ap (λ n. printed_lines (cover_lines name part n) ++ (instance ++ printed_cover cover)) long))))
 
 -- the lines before the instance, appended one after another

@@ -43,7 +43,7 @@ one-journal head other records others file here there =
     let same : record { head = other; records = others; tail = there.0 } ≡ record { head = head; records = records; tail = here.0 } = cc in
     (ap (λ (j : JournalView). j.head) same, ap (λ (j : JournalView). j.records) same)
 
--- a front behind the records of one file, in the words of another reading of it
+-- a front after the records of one file, in the words of another reading of it
 same-front : (head other : HeadView) (old others new : List RecordView) (file c : List ℕ) → HasRecords head old file → HasRecords other others file → HasFront other others new c → HasFront head old new c
 same-front head other old others new file c here there front =
     let same = one-journal head other old others file here there in
@@ -204,7 +204,7 @@ module _ {D : Type 0} (on : Ghosts D) where
         (λ s w has. record { earlier = w.0.leaves.earlier; each = λ c left. old-front other others written c (subst (HasRecords other others) (sym (w.0.leaves.each c left)) has) })
         (λ s w has c front. same-front other head others old written s.content c has w.1 front)
 
-  -- ---- what stands behind the records from the making: those that keep up with the board, and one more at most
+  -- ---- what stands after the records from the making: those that keep up with the board, and one more at most
   record HasWritten (dp : Dp) (b : BoardState) (made now : D) (head : HeadView) (old : List RecordView) : Type 0 where
     pub within : b.settings.within ≡ head.within
     pub added : List RecordView
@@ -357,10 +357,10 @@ module _ {D : Type 0} (on : Ghosts D) where
               ends = λ tells. inr (λ c left. all-but-one head [] w.added w.last w.at_most_one c (w.ends c left));
             }
 
-    -- behind the records that the first sync has found
-    pub left-behind : (old : List RecordView) → (IsTrue (on.tells made) → HasRecords head old (on.seen made)) → IsFound head old made → IsUnwritten on made
+    -- after the records that the first sync has found
+    pub left-following : (old : List RecordView) → (IsTrue (on.tells made) → HasRecords head old (on.seen made)) → IsFound head old made → IsUnwritten on made
         → (rs : List RecordView) × SinceAttached on now (λ s. HasGoneOn on (MayBeAdded dp head.within old rs) head old rs now s)
-    left-behind old reads found unwritten = by-telling (on.tells now) refl
+    left-following old reads found unwritten = by-telling (on.tells now) refl
       where
         by-telling : (t : Bool) → on.tells now ≡ t → (rs : List RecordView) × SinceAttached on now (λ s. HasGoneOn on (MayBeAdded dp head.within old rs) head old rs now s)
         by-telling false is = ([], λ tells. absurd (let no : true ≡ false = sym tells ∙ is in cc))
@@ -450,9 +450,9 @@ module _ {D : Type 0} (on : Ghosts D) where
   pub none-follow : (dp : Dp) (within : ℤ) (old : List RecordView) → MayBeAdded dp within old []
   none-follow dp within old accepted = fronts-of dp within old [] (record { accepted = accepted; goes_on = tt; sound = λ starts sound. (journals-grow dp old []).last starts within sound })
 
-  -- nothing is behind the records where nothing was written
-  pub none-behind : (Follows : Type 0) (now : D) (head : HeadView) (old : List RecordView) → Follows → IsUnwritten on now → SinceAttached on now (λ s. HasRecords head old s.content → HasGoneOn on Follows head old [] now s)
-  none-behind Follows now head old may unwritten tells =
+  -- nothing is after the records where nothing was written
+  pub none-following : (Follows : Type 0) (now : D) (head : HeadView) (old : List RecordView) → Follows → IsUnwritten on now → SinceAttached on now (λ s. HasRecords head old s.content → HasGoneOn on Follows head old [] now s)
+  none-following Follows now head old may unwritten tells =
       at-first (on.start now) (on.found now) (on.seen now) (λ s. BeganAt on.moment on.left_since s now s.content) (λ s. HasRecords head old s.content → HasGoneOn on Follows head old [] now s)
       (λ s w has. record { since = λ c left. old-front head old [] c (subst (HasRecords head old) (sym (w.leaves.each c left)) has); follow = may; ends = inl refl }) (unwritten tells)
 
@@ -460,7 +460,7 @@ module _ {D : Type 0} (on : Ghosts D) where
   none-after head old = let t = theory_of head.model in if-ok (t.spelled head.text) (λ numbers. none-follow (t.program numbers) head.within old)
 
   pub left-unwritten : (path : List ℕ) (before now : D) → Attaches on path before now → IsUnwritten on now → LeavesAfterResume on MayFollow path before now
-  left-unwritten path before now attaches unwritten = record { attaches = attaches; written = []; leaves = λ head old. none-behind (MayFollow head old []) now head old (none-after head old) unwritten }
+  left-unwritten path before now attaches unwritten = record { attaches = attaches; written = []; leaves = λ head old. none-following (MayFollow head old []) now head old (none-after head old) unwritten }
 
   -- whatever journal the first sync found, it is the one that was gone on from
   pub left-resumed : (path : List ℕ) (before now : D) (head : HeadView) (old rs : List RecordView) → Attaches on path before now → IsFound head old now → SinceAttached on now (λ s. HasGoneOn on (MayFollow head old rs) head old rs now s) → LeavesAfterResume on MayFollow path before now

@@ -87,12 +87,12 @@ Draws t n seed solved answer = DrawsSome t solved (drawn t.drawing n seed) answe
 abbrev pub Replies : Theory → (List ℤ → Answer → Type 0) → List ℕ → Answer → Type 0
 Replies t IsFor bytes answer = MatchResult (t.spelled bytes) (λ numbers. IsFor numbers answer) (λ e. RefusesInstance e answer)
 
--- where a search is asked for: how it ends, and a cover behind a report is accepted by `check`
+-- where a search is asked for: how it ends, and a cover after a report is accepted by `check`
 abbrev pub SolvesText : Theory → ModelName → JobSettings → List ℕ → Answer → Type 0
 SolvesText t name search bytes answer =
     Replies t (λ numbers found. Solves (t.program numbers) (t.own_value numbers) search found × IsCovered name (t.canonical numbers) found) bytes answer
 
--- where a search of a part is asked for: how that of the part ends, and a cover behind a report is accepted as that of the part
+-- where a search of a part is asked for: how that of the part ends, and a cover after a report is accepted as that of the part
 abbrev pub SolvesPart : Theory → ModelName → PartNumber → JobSettings → List ℕ → Answer → Type 0
 SolvesPart t name part search bytes answer =
     Replies t (λ numbers found. Solves (part_program (t.program numbers) part.index part.of) (part_own part.index part.of (t.own_value numbers)) search found

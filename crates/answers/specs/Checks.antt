@@ -4,7 +4,7 @@ use Rattle.bound_cover.specs.Covers.{CoverRow}
 use Rattle.bound_cover.specs.Verdicts.{verdict}
 use Rattle.bound_cover.specs.declared.cover.Verdict.{Verdict}
 use Rattle.bound_cover.specs.declared.cover.Verdict.TheVariants.{Accepted}
-use Rattle.cover_text.specs.Texts.{CoverTextView, OpenView, cover_behind, held_with, text_of}
+use Rattle.cover_text.specs.Texts.{CoverTextView, OpenView, cover_after, held_with, text_of}
 use Rattle.cover_text.specs.declared.cover_error.CoverError.{CoverError}
 use Rattle.cover_text.specs.declared.cover_error.CoverError.TheVariants as causes
 use Rattle.tokens.specs.Grammar.{of_text}
@@ -59,7 +59,7 @@ RefusesCover e _ = ⊥
 
 -- what may be answered to sections: to the cover that they are read as, or to their first fault
 abbrev pub ToSections : OpenView → (List (List CoverRow) → Answer → Type 0) → Answer → Type 0
-ToSections o held answer = MatchResult (cover_behind o.before o.behind) (λ cover. held cover answer) (λ e. RefusesCover e answer)
+ToSections o held answer = MatchResult (cover_after o.before o.following) (λ cover. held cover answer) (λ e. RefusesCover e answer)
 
 -- what may be answered to a text up to its sections, and to these
 abbrev pub ChecksOpened : Theory → OpenView → Answer → Type 0

@@ -1,4 +1,4 @@
--- When a cover behind a report is right.
+-- When a cover after a report is right.
 use Rattle.std.specs.Prelude.{◌≡◌, ℕ, ◌^◌, ◌≤◌, ℤ, List, length, Option, Some, None, Ok}
 use Rattle.bound_cover.specs.Covers.{CoverRow}
 use Rattle.bound_cover.specs.Verdicts.{checked_rows}

@@ -12,7 +12,7 @@ use Rattle.journal_bytes.specs.Bodies.{RecordView, RecordsView}
 use Rattle.journal_bytes.specs.Frames.{frames_of}
 use Rattle.journal_bytes.specs.declared.head.Head.{Head}
 use Rattle.journal_bytes.specs.declared.tail.Tail.{Tail}
-use Rattle.journal_bytes.specs.Journal.{HeadView, HasRecords, behind_head, journal_of}
+use Rattle.journal_bytes.specs.Journal.{HeadView, HasRecords, after_head, journal_of}
 use Rattle.journal_file.specs.Beginning.{BeganAt, MayBegin}
 use Rattle.journal_file.specs.Refusing.{IsRefusal, Opens}
 use Rattle.journal_file.specs.declared.error.JournalError.{JournalError}
@@ -27,7 +27,7 @@ use Rattle.kept_board.specs.Records.{AreAdded, IsFrontAdded, KeepUp, finish_reco
 abbrev pub HasBegun : HeadView → List RecordView → List ℕ → Type 0
 HasBegun head written file = (journal_of file ≡ Err NotBegun) ⊎ HasFront head [] written file
 
--- each front of these records may stand behind the old ones: all are accepted, and sound where the old ones are, and the incumbent is no worse
+-- each front of these records may stand after the old ones: all are accepted, and sound where the old ones are, and the incumbent is no worse
 abbrev pub AreFrontsAdded : Dp → ℤ → List RecordView → List RecordView → Type 0
 AreFrontsAdded dp within old written = (front others : List RecordView) → written ≡ front ++ others → IsFrontAdded dp within old front
 
@@ -35,7 +35,7 @@ AreFrontsAdded dp within old written = (front others : List RecordView) → writ
 abbrev pub AreFrontsSound : Dp → ℤ → List RecordView → Type 0
 AreFrontsSound dp within written = (front others : List RecordView) → written ≡ front ++ others → AreAccepted dp front × AreSound dp within front
 
--- a file has the old records and all that were written behind them, or all but the last
+-- a file has the old records and all that were written after them, or all but the last
 abbrev pub HasAllButOne : HeadView → List RecordView → List RecordView → List ℕ → Type 0
 HasAllButOne head old written file = HasRecords head (old ++ written) file
     ⊎ ((front : List RecordView) × (last : RecordView) × (written ≡ front ++ last ∷ []) × HasRecords head (old ++ front) file)
@@ -66,13 +66,13 @@ module _ {D : Type 0} (on : Ghosts D) where
   Attaches path before now = (on.names now ≡ on.names before ++ path ∷ [])
       ⊎ ((on.names now ≡ on.names before) × (on.start now ≡ None) × Rose (on.faults before) (on.faults now))
 
-  -- bytes were read, which are what the first sync found where the disk tells them: what was opened is what they read as, its first record stands behind
+  -- bytes were read, which are what the first sync found where the disk tells them: what was opened is what they read as, its first record stands after
   -- their head, and an error is their first cause, told only after the first sync
   pub record HasOpened (disk : D) (result : Result (Head × RecordsView × Tail) JournalError) : Type 0 where
     pub file : List ℕ
     pub is_file : SinceAttached disk (λ s. s.content ≡ file)
     pub opens : Opens result (journal_of file)
-    pub first : IfOk result (λ r. r.1.first ≡ behind_head (frames_of file))
+    pub first : IfOk result (λ r. r.1.first ≡ after_head (frames_of file))
     pub began : IfErr result (λ e. IsRefusal e → IsSome (on.start disk))
 
   -- what a search that begins leaves at any moment, however it ends
@@ -83,7 +83,7 @@ module _ {D : Type 0} (on : Ghosts D) where
   abbrev pub LeavesResumed : HeadView → List RecordView → List RecordView → D → Type 0
   LeavesResumed head old written disk = Since disk (HasRecords head old) (HasFront head old written)
 
-  -- The journal at the end of a search: behind the old records stand those that the search added, which keep up with the board: replayed they
+  -- The journal at the end of a search: after the old records stand those that the search added, which keep up with the board: replayed they
   -- give its incumbent and its open subproblems, and each subproblem that it finished has its record. A crash leaves them all, and one more at
   -- most, which may follow, and at which the disk has failed. Since the first sync it has left what Leaves says.
   pub record IsJournaled (dp : Dp) (head : HeadView) (old : List RecordView) (Leaves : List RecordView → D → Type 0) (disk : D) (b : BoardState) : Type 0 where

@@ -6,7 +6,7 @@ use Rattle.dp_model.specs.Dp.{Dp}
 use Rattle.journal_bytes.specs.Bodies.{RecordView}
 use Rattle.journal_bytes.specs.Frames.{frames_of}
 use Rattle.journal_bytes.specs.declared.head.TheConstants.{VERSION}
-use Rattle.journal_bytes.specs.Journal.{HeadView, JournalView, HasRecords, behind_head, journal_of}
+use Rattle.journal_bytes.specs.Journal.{HeadView, JournalView, HasRecords, after_head, journal_of}
 use Rattle.journal_file.specs.Refusing.{error_of}
 use Rattle.journal_file.specs.declared.error.JournalError.TheVariants as errors
 use Rattle.journal_replay.specs.Accepting.{AreAccepted, AreRefused}
@@ -29,7 +29,7 @@ use Rattle.solver_words.specs.declared.job.JobSettings.{JobSettings}
 abbrev pub head_of : Theory → ModelName → ℤ → List ℤ → HeadView
 head_of t name within numbers = record { version = VERSION; within = within; model = name; text = t.canonical numbers }
 
--- each front of these records may stand behind old ones, where those are accepted
+-- each front of these records may stand after old ones, where those are accepted
 abbrev pub MayBeAdded : Dp → ℤ → List RecordView → List RecordView → Type 0
 MayBeAdded dp within old written = AreAccepted dp old → AreFrontsAdded dp within old written
 
@@ -49,7 +49,7 @@ module _ {D : Type 0} (on : Ghosts D) where
   SolvesKept dp own head search before now answer =
       Ends dp search (λ outcome counts. IsSome (on.start now) × MightBegin on now × HasSearchedFromStart dp own search (HasKept on dp head [] (LeavesBegun on head) now) outcome counts) answer
 
-  -- for a text: for the instance that it spells, with a cover that is accepted behind a report, or its first fault, and then the disk is as it was
+  -- for a text: for the instance that it spells, with a cover that is accepted after a report, or its first fault, and then the disk is as it was
   abbrev pub RepliesKept : ModelName → JobSettings → D → D → List ℕ → Answer → Type 0
   RepliesKept name search before now bytes answer =
       let t = theory_of name in
@@ -81,7 +81,7 @@ module _ {D : Type 0} (on : Ghosts D) where
     pub file : List ℕ
     pub is_file : SinceAttached on now (λ s. s.content ≡ file)
     pub right : MatchResult (journal_of file)
-        (λ j. ResumesJournal j (behind_head (frames_of file)) search now answer)
+        (λ j. ResumesJournal j (after_head (frames_of file)) search now answer)
         (λ refusal. answer ≡ answers.Journal (error_of refusal))
 
   -- what `resume` may answer: the disk has failed, memory ran out, or the answer is for the file; nothing was written where the disk failed, or the file

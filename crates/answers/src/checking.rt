@@ -48,7 +48,7 @@ fn check_open(alloc: Global, text: &OpenCover<'_>) -> Answer
     requires distance { IsDistance text.now.within }
     requires instance { length text.now.instance.now < 2 ^ 32 - 1 }
     requires before { length text.now.before.now < 2 ^ 32 - 1 }
-    requires behind { length text.now.behind.now < 2 ^ 32 - 1 }
+    requires following { length text.now.following.now < 2 ^ 32 - 1 }
     ensures { ChecksOpened (theory_of text.now.model) (opened_in text.now) result }
 {
     by_name!(text.model, check_instance(alloc, text))
@@ -60,7 +60,7 @@ fn check_instance<P: Problem>(alloc: Global, text: &OpenCover<'_>) -> Answer
     requires distance { IsDistance text.now.within }
     requires instance { length text.now.instance.now < 2 ^ 32 - 1 }
     requires before { length text.now.before.now < 2 ^ 32 - 1 }
-    requires behind { length text.now.behind.now < 2 ^ 32 - 1 }
+    requires following { length text.now.following.now < 2 ^ 32 - 1 }
     ensures { ChecksOpened P.theory (opened_in text.now) result }
 {
     match P::read(alloc, text.instance) {
@@ -73,7 +73,7 @@ fn check_instance<P: Problem>(alloc: Global, text: &OpenCover<'_>) -> Answer
 /// The fault of the instance, where the sections have none.
 fn refuse_instance(alloc: Global, refusal: InstanceRefusal, text: &OpenCover<'_>) -> Answer
     requires before { length text.now.before.now < 2 ^ 32 - 1 }
-    requires behind { length text.now.behind.now < 2 ^ 32 - 1 }
+    requires following { length text.now.following.now < 2 ^ 32 - 1 }
     ensures { ToSections (opened_in text.now) (λ _. RefusesInstance refusal) result }
 {
     match text.read(alloc) {
@@ -87,7 +87,7 @@ fn check_meant<P: Problem>(alloc: Global, model: P, text: &OpenCover<'_>) -> Ans
     requires part { MayBePart text.now.part }
     requires distance { IsDistance text.now.within }
     requires before { length text.now.before.now < 2 ^ 32 - 1 }
-    requires behind { length text.now.behind.now < 2 ^ 32 - 1 }
+    requires following { length text.now.following.now < 2 ^ 32 - 1 }
     ensures { ToSections (opened_in text.now) (λ cover. Checks (program_in text.now.part (P.meaning (P.numbers model))) (own_in text.now.part (P.theory.own_value (P.numbers model))) (held_with (opened_in text.now) cover)) result }
 {
     let Some(number) = text.part else {
@@ -103,7 +103,7 @@ fn check_meant<P: Problem>(alloc: Global, model: P, text: &OpenCover<'_>) -> Ans
 fn check_sections<M: DpModel>(alloc: Global, model: &M, text: &OpenCover<'_>) -> Answer
     requires distance { IsDistance text.now.within }
     requires before { length text.now.before.now < 2 ^ 32 - 1 }
-    requires behind { length text.now.behind.now < 2 ^ 32 - 1 }
+    requires following { length text.now.following.now < 2 ^ 32 - 1 }
     ensures { (own : List ℕ → Option ℤ) → Agrees (M.meaning (M.numbers model.now)) own → ToSections (opened_in text.now) (λ cover. Checks (M.meaning (M.numbers model.now)) own (held_with (opened_in text.now) cover)) result }
 {
     match text.check(alloc, model) {

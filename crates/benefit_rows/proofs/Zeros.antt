@@ -1,4 +1,4 @@
--- Zeros that are written behind zeros.
+-- Zeros that are written after zeros.
 use Rattle.std.proofs.Common.{◌≡◌, ℕ, zero, suc, ◌+◌, ◌-◌, ◌<◌, ℤ, pos, List, [], ◌∷◌, length, take, drop, replicate, arith, ap, ◌∙◌, refl}
 use Rattle.std.proofs.lemmas.List.{append-nil, drop_all, length-drop, take_all, take-replicate, replicate-append-replicate}
 use borrow.Rule.Slice.PartMut.{put_mid, post_of}

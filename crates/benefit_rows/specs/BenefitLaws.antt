@@ -18,8 +18,8 @@ pub size_of-sub : (y z : ℤ) → size_of (y -ℤ z) ≤ℤ (size_of y +ℤ size
 size_of-sub y z = omega (arith, ints, clamps)
 
 -- no size exceeds another one by more than that of the difference
-size_of-behind : (a s : ℤ) → size_of s ≤ℤ (size_of a +ℤ size_of (s -ℤ a))
-size_of-behind a s = omega (arith, ints, clamps)
+size_of-following : (a s : ℤ) → size_of s ≤ℤ (size_of a +ℤ size_of (s -ℤ a))
+size_of-following a s = omega (arith, ints, clamps)
 
 -- a benefit lies between its size and the negated size
 pub size_of-bounds : (z : ℤ) → (z ≤ℤ size_of z) × ((pos 0 -ℤ size_of z) ≤ℤ z)
@@ -139,7 +139,7 @@ pub rank_of-differences : (as_ ss : List ℤ) → length as_ ≡ length ss → r
 rank_of-differences [] [] p = omega (arith, ints)
 rank_of-differences [] (s ∷ ss) p = absurd (omega arith)
 rank_of-differences (a ∷ as_) [] p = absurd (omega arith)
-rank_of-differences (a ∷ as_) (s ∷ ss) p = omega (arith, ints, size_of-behind a s, rank_of-differences as_ ss (omega arith))
+rank_of-differences (a ∷ as_) (s ∷ ss) p = omega (arith, ints, size_of-following a s, rank_of-differences as_ ss (omega arith))
 
 pub length-differences : (as_ ss : List ℤ) → length as_ ≡ length ss → length (differences as_ ss) ≡ length as_
 length-differences [] ss p = refl
@@ -171,7 +171,7 @@ rank_of-sums_of [] as_ = omega (arith, ints, rank_of-positive as_)
 rank_of-sums_of (s ∷ ss) [] = omega (arith, ints, rank_of-positive (s ∷ ss))
 rank_of-sums_of (s ∷ ss) (a ∷ as_) = omega (arith, ints, size_of-add s a, rank_of-sums_of ss as_)
 
--- rows of equal lengths are merged one behind the other
+-- rows of equal lengths are merged one after the other
 pub merged_of-append : (as_ ss more rest : List ℤ) → length as_ ≡ length ss → merged_of (as_ ++ more) (ss ++ rest) ≡ merged_of as_ ss ++ merged_of more rest
 merged_of-append [] [] more rest e = refl
 merged_of-append [] (s ∷ ss) more rest e = absurd (omega arith)
@@ -182,10 +182,10 @@ pub merged_of-zeros : (n : ℕ) → merged_of (replicate n (pos 0)) (replicate n
 merged_of-zeros zero = refl
 merged_of-zeros (suc n) = ap (λ zs. pos 0 ∷ zs) (merged_of-zeros n)
 
--- rows whose first k benefits are zero are merged behind them
-pub merged_of-behind : (k : ℕ) (as_ ss : List ℤ) → take k as_ ≡ replicate k (pos 0) → take k ss ≡ replicate k (pos 0)
+-- rows whose first k benefits are zero are merged after them
+pub merged_of-following : (k : ℕ) (as_ ss : List ℤ) → take k as_ ≡ replicate k (pos 0) → take k ss ≡ replicate k (pos 0)
     → merged_of as_ ss ≡ take k as_ ++ merged_of (drop k as_) (drop k ss)
-merged_of-behind k as_ ss e f =
+merged_of-following k as_ ss e f =
     let halves = merged_of-append (take k as_) (take k ss) (drop k as_) (drop k ss) (ap length (e ∙ sym f)) in
     let front : merged_of (take k as_) (take k ss) ≡ take k as_ = rw (e, f) (merged_of-zeros k) in
     rw (take-append-drop k as_, take-append-drop k ss, front) at halves

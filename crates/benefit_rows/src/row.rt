@@ -113,7 +113,7 @@ fn block_of(row: &[i64], block: usize) -> &[i64]
     &row[BLOCK * block..BLOCK * block + BLOCK]
 }
 
-/// What follows so many blocks of a row.
+/// What follows this many blocks of a row.
 fn rest_after(row: &[i64], blocks: usize) -> &[i64]
     requires { 8 * blocks ≤ length row.now }
     ensures { result.now ≡ drop (8 * blocks) row.now }
@@ -135,7 +135,7 @@ fn distance(from: &[i64], to: &[i64]) -> i64
     total
 }
 
-/// Writes zeros. So many first benefits as `done` are zero already, and are not written.
+/// Writes zeros. As many first benefits as `done` are zero already, and are not written.
 pub fn write_zeros(out: &mut [i64], done: usize)
     requires { take done out.old ≡ take done (replicate (length out.old) (pos 0)) }
     ensures { out.new ≡ replicate (length out.old) (pos 0) }

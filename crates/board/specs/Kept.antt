@@ -12,11 +12,11 @@ abbrev pub best_of : List ℕ → Option ℤ → Option Solution
 best_of decisions None = None
 best_of decisions (Some value) = Some (record { decisions = decisions; value = value })
 
--- the table has room for so many entries more, or for all that its limit leaves
+-- the table has room for this many entries more, or for all that its limit leaves
 abbrev pub HasRows : ℕ → TableView → Type 0
 HasRows n t = (n ≤ t.spare) ⊎ (t.limit ≤ length t.entries + t.spare)
 
--- the fringe and the table are of the instance and the settings, and have room for so many children beside what is out
+-- the fringe and the table are of the instance and the settings, and have room for this many children beside what is out
 pub record HasRoomForChildren (dp : Dp) (b : BoardState) (fringe : FringeView) (table : TableView) (room : ℕ) : Type 0 where
   pub fringe_words : fringe.words ≡ dp.words
   pub table_words : table.words ≡ dp.words

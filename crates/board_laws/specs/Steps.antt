@@ -74,7 +74,7 @@ abbrev pub root_opened : Option Subproblem → List Ticketed
 root_opened None = []
 root_opened (Some c) = record { ticket = 0; subproblem = c } ∷ []
 
--- so many empty slots
+-- this many empty slots
 abbrev pub empty_slots : ℕ → List (Option Ticketed)
 empty_slots zero = []
 empty_slots (suc n) = None ∷ empty_slots n

@@ -52,14 +52,14 @@ pub range-front : {X : Type 0} (xs ys : List X) (from to : ℕ) → from ≤ to 
 range-front xs ys from to up low =
     ap (take (to - from)) (drop-append-le from xs ys (omega arith)) ∙ take-front (to - from) (drop from xs) ys (let long = length-drop from xs in omega arith)
 
-range-behind : {X : Type 0} (xs ys : List X) → slice_range (xs ++ ys) (length xs) (length xs + length ys) ≡ ys
-range-behind xs ys =
+range-following : {X : Type 0} (xs ys : List X) → slice_range (xs ++ ys) (length xs) (length xs + length ys) ≡ ys
+range-following xs ys =
     let count : length xs + length ys - length xs ≡ length ys = omega arith in
     ap (λ n. take n (drop (length xs) (xs ++ ys))) count ∙ (ap (take (length ys)) (drop-append_seam xs ys) ∙ take-length ys)
 
-with-row-behind : (layer : List CoverRow) (layers : List (List CoverRow)) (row : CoverRow) → 0 < length layers → with_row (layer ∷ layers) row ≡ layer ∷ with_row layers row
-with-row-behind layer [] row h = absurd (omega arith)
-with-row-behind layer (next ∷ layers) row h = refl
+with-row-following : (layer : List CoverRow) (layers : List (List CoverRow)) (row : CoverRow) → 0 < length layers → with_row (layer ∷ layers) row ≡ layer ∷ with_row layers row
+with-row-following layer [] row h = absurd (omega arith)
+with-row-following layer (next ∷ layers) row h = refl
 
 pub layers-row : (starts : List ℕ) (rows : List CoverRow) (row : CoverRow) → RiseTo starts (length rows) → layers_of starts (rows ++ row ∷ []) ≡ with_row (layers_of starts rows) row
 layers-row [] rows row h = refl
@@ -67,7 +67,7 @@ layers-row (start ∷ []) rows row h = ap (λ l. l ∷ []) (drop-append-le start
 layers-row (start ∷ next ∷ starts) rows row h =
     let some : 0 < length (layers_of (next ∷ starts) rows) = (let e = length-layers (next ∷ starts) rows in omega arith) in
     ap (λ l. l ∷ layers_of (next ∷ starts) (rows ++ row ∷ [])) (range-front rows (row ∷ []) start next h.0 (starts-within next starts (length rows) h.1))
-    ∙ (ap (λ ls. slice_range rows start next ∷ ls) (layers-row (next ∷ starts) rows row h.1) ∙ sym (with-row-behind (slice_range rows start next) (layers_of (next ∷ starts) rows) row some))
+    ∙ (ap (λ ls. slice_range rows start next ∷ ls) (layers-row (next ∷ starts) rows row h.1) ∙ sym (with-row-following (slice_range rows start next) (layers_of (next ∷ starts) rows) row some))
 
 -- the rows that are there show the same
 rows-same : (words new_words : List ℤ) (arcs new_arcs : List CoverArc) (heads : List Span) → Each (IsWithin (length words) (length arcs)) heads → map (row_of (words ++ new_words) (arcs ++ new_arcs)) heads ≡ map (row_of words arcs) heads
@@ -80,34 +80,34 @@ rows-same words new_words arcs new_arcs (head ∷ heads) h =
     ∙ ap (λ l. record { bound = head.bound; words = slice_range words head.words_from head.words_to; arcs = cond head.has_arcs (Some l) None }) a in
     ap (λ r. r ∷ map (row_of (words ++ new_words) (arcs ++ new_arcs)) heads) first ∙ ap (λ rs. row_of words arcs head ∷ rs) (rows-same words new_words arcs new_arcs heads h.1)
 
--- the head of a row whose words and arcs were put behind all others
-abbrev pub head_behind : Option ℤ → Bool → ℕ → ℕ → ℕ → ℕ → Span
-head_behind bound has_arcs words words_to arcs arcs_to = record { bound = bound; words_from = words; words_to = words_to; has_arcs = has_arcs; arcs_from = arcs; arcs_to = arcs_to }
+-- the head of a row whose words and arcs were put after all others
+abbrev pub head_after : Option ℤ → Bool → ℕ → ℕ → ℕ → ℕ → Span
+head_after bound has_arcs words words_to arcs arcs_to = record { bound = bound; words_from = words; words_to = words_to; has_arcs = has_arcs; arcs_from = arcs; arcs_to = arcs_to }
 
-pub map-behind : {X Y : Type 0} (f : X → Y) (xs : List X) (x : X) → map f (xs ++ x ∷ []) ≡ map f xs ++ f x ∷ []
-map-behind f [] x = refl
-map-behind f (y ∷ xs) x = ap (λ l. f y ∷ l) (map-behind f xs x)
+pub map-following : {X Y : Type 0} (f : X → Y) (xs : List X) (x : X) → map f (xs ++ x ∷ []) ≡ map f xs ++ f x ∷ []
+map-following f [] x = refl
+map-following f (y ∷ xs) x = ap (λ l. f y ∷ l) (map-following f xs x)
 
 pub row-added : (starts : List ℕ) (heads : List Span) (words new_words : List ℤ) (arcs new_arcs : List CoverArc) (bound : Option ℤ) (has_arcs : Bool) → IsStored starts heads (length words) (length arcs)
-    → layers_of starts (map (row_of (words ++ new_words) (arcs ++ new_arcs)) (heads ++ head_behind bound has_arcs (length words) (length words + length new_words) (length arcs) (length arcs + length new_arcs) ∷ []))
+    → layers_of starts (map (row_of (words ++ new_words) (arcs ++ new_arcs)) (heads ++ head_after bound has_arcs (length words) (length words + length new_words) (length arcs) (length arcs + length new_arcs) ∷ []))
     ≡ with_row (layers_of starts (map (row_of words arcs) heads)) (record { bound = bound; words = new_words; arcs = cond has_arcs (Some new_arcs) None })
 row-added starts heads words new_words arcs new_arcs bound has_arcs h =
     let show = row_of (words ++ new_words) (arcs ++ new_arcs) in
-    let head = head_behind bound has_arcs (length words) (length words + length new_words) (length arcs) (length arcs + length new_arcs) in
+    let head = head_after bound has_arcs (length words) (length words + length new_words) (length arcs) (length arcs + length new_arcs) in
     let new : CoverRow = record { bound = bound; words = new_words; arcs = cond has_arcs (Some new_arcs) None } in
     let shown : show head ≡ new =
-    ap (λ l. record { bound = bound; words = l; arcs = cond has_arcs (Some (slice_range (arcs ++ new_arcs) (length arcs) (length arcs + length new_arcs))) None }) (range-behind words new_words)
-    ∙ ap (λ l. record { bound = bound; words = new_words; arcs = cond has_arcs (Some l) None }) (range-behind arcs new_arcs) in
+    ap (λ l. record { bound = bound; words = l; arcs = cond has_arcs (Some (slice_range (arcs ++ new_arcs) (length arcs) (length arcs + length new_arcs))) None }) (range-following words new_words)
+    ∙ ap (λ l. record { bound = bound; words = new_words; arcs = cond has_arcs (Some l) None }) (range-following arcs new_arcs) in
     let old = rows-same words new_words arcs new_arcs heads h.within in
     let rises : RiseTo starts (length (map (row_of words arcs) heads)) = subst (λ n. RiseTo starts n) (sym (length-map heads (row_of words arcs))) h.starts_rise in
-    ap (layers_of starts) (map-behind show heads head ∙ (ap (λ l. l ++ show head ∷ []) old ∙ ap (λ r. map (row_of words arcs) heads ++ r ∷ []) shown))
+    ap (layers_of starts) (map-following show heads head ∙ (ap (λ l. l ++ show head ∷ []) old ∙ ap (λ r. map (row_of words arcs) heads ++ r ∷ []) shown))
     ∙ layers-row starts (map (row_of words arcs) heads) new rises
 
 pub row-stored : (starts : List ℕ) (heads : List Span) (words arcs new_words new_arcs : ℕ) (bound : Option ℤ) (has_arcs : Bool) → IsStored starts heads words arcs
-    → IsStored starts (heads ++ head_behind bound has_arcs words (words + new_words) arcs (arcs + new_arcs) ∷ []) (words + new_words) (arcs + new_arcs)
+    → IsStored starts (heads ++ head_after bound has_arcs words (words + new_words) arcs (arcs + new_arcs) ∷ []) (words + new_words) (arcs + new_arcs)
 row-stored starts heads words arcs new_words new_arcs bound has_arcs h = record {
-  starts_rise = rises-to starts (length heads) (length (heads ++ head_behind bound has_arcs words (words + new_words) arcs (arcs + new_arcs) ∷ [])) h.starts_rise (let long = length-append heads (head_behind bound has_arcs words (words + new_words) arcs (arcs + new_arcs) ∷ []) in omega arith);
-  within = Each-append (IsWithin (words + new_words) (arcs + new_arcs)) heads (head_behind bound has_arcs words (words + new_words) arcs (arcs + new_arcs) ∷ [])
+  starts_rise = rises-to starts (length heads) (length (heads ++ head_after bound has_arcs words (words + new_words) arcs (arcs + new_arcs) ∷ [])) h.starts_rise (let long = length-append heads (head_after bound has_arcs words (words + new_words) arcs (arcs + new_arcs) ∷ []) in omega arith);
+  within = Each-append (IsWithin (words + new_words) (arcs + new_arcs)) heads (head_after bound has_arcs words (words + new_words) arcs (arcs + new_arcs) ∷ [])
       (Each-then (IsWithin words arcs) (IsWithin (words + new_words) (arcs + new_arcs)) heads (λ x w. (let a = w.words_end in let b = w.arcs_end in record { words_rise = w.words_rise; words_end = omega arith; arcs_rise = w.arcs_rise; arcs_end = omega arith })) h.within)
       (record { words_rise = omega arith; words_end = omega arith; arcs_rise = omega arith; arcs_end = omega arith }, tt);
 }

@@ -8,9 +8,9 @@ use Rattle.bound_cover.specs.declared.storing.Span.{Span}
 use Rattle.bound_cover.specs.Covers.{CoverRow}
 use Rattle.bound_cover.specs.Stored.{row_of, layers_of, last_layer, IsWithin, RiseTo, AreShort, IsStored, with_row}
 use Rattle.bound_cover.specs.Building.{built, IsBuilt, with_word, with_arc, with_layer, open_row, with_open_row}
-use Rattle.bound_cover.proofs.Blocks.{head_behind, layer-added, layer-stored, layers-row, length-layers, map-behind, range-front, row-stored, short-layer, short-row}
+use Rattle.bound_cover.proofs.Blocks.{head_after, layer-added, layer-stored, layers-row, length-layers, map-following, range-front, row-stored, short-layer, short-row}
 
--- a word behind those of all rows is in none of them
+-- a word after those of all rows is in none of them
 words-kept : (words more : List ℤ) (arcs : List CoverArc) (heads : List Span) (w a : ℕ) → w ≤ length words → Each (IsWithin w a) heads → map (row_of (words ++ more) arcs) heads ≡ map (row_of words arcs) heads
 words-kept words more arcs [] w a low h = refl
 words-kept words more arcs (head ∷ heads) w a low h =
@@ -32,17 +32,17 @@ to-the-end : {X : Type 0} (from : ℕ) (xs : List X) → slice_range xs from (le
 to-the-end from xs = take_all (length xs - from) (drop from xs) (let long = length-drop from xs in omega arith)
 
 row-ended : (starts : List ℕ) (heads : List Span) (words : List ℤ) (arcs : List CoverArc) (w a : ℕ) (bound : Option ℤ) (has_arcs : Bool) → IsStored starts heads w a
-    → layers_of starts (map (row_of words arcs) (heads ++ head_behind bound has_arcs w (length words) a (length arcs) ∷ []))
+    → layers_of starts (map (row_of words arcs) (heads ++ head_after bound has_arcs w (length words) a (length arcs) ∷ []))
     ≡ with_row (layers_of starts (map (row_of words arcs) heads)) (record { bound = bound; words = drop w words; arcs = cond has_arcs (Some (drop a arcs)) None })
 row-ended starts heads words arcs w a bound has_arcs h =
     let show = row_of words arcs in
-    let head = head_behind bound has_arcs w (length words) a (length arcs) in
+    let head = head_after bound has_arcs w (length words) a (length arcs) in
     let new : CoverRow = record { bound = bound; words = drop w words; arcs = cond has_arcs (Some (drop a arcs)) None } in
     let shown : show head ≡ new =
     ap (λ l. record { bound = bound; words = l; arcs = cond has_arcs (Some (slice_range arcs a (length arcs))) None }) (to-the-end w words)
     ∙ ap (λ l. record { bound = bound; words = drop w words; arcs = cond has_arcs (Some l) None }) (to-the-end a arcs) in
     let rises = subst (λ n. RiseTo starts n) (sym (length-map heads show)) h.starts_rise in
-    ap (layers_of starts) (map-behind show heads head ∙ ap (λ r. map show heads ++ r ∷ []) shown) ∙ layers-row starts (map show heads) new rises
+    ap (layers_of starts) (map-following show heads head ∙ ap (λ r. map show heads ++ r ∷ []) shown) ∙ layers-row starts (map show heads) new rises
 
 module _ (starts : List ℕ) (heads : List Span) (words : List ℤ) (arcs : List CoverArc) (w a : ℕ) (is : IsBuilt starts heads words arcs w a) where
   -- a further word
@@ -86,13 +86,13 @@ module _ (starts : List ℕ) (heads : List Span) (words : List ℤ) (arcs : List
   }
 
   -- the open row is ended
-  pub row-built : (bound : Option ℤ) (has_arcs : Bool) → built starts (heads ++ head_behind bound has_arcs w (length words) a (length arcs) ∷ []) words arcs (length words) (length arcs) ≡ with_open_row (built starts heads words arcs w a) bound has_arcs
+  pub row-built : (bound : Option ℤ) (has_arcs : Bool) → built starts (heads ++ head_after bound has_arcs w (length words) a (length arcs) ∷ []) words arcs (length words) (length arcs) ≡ with_open_row (built starts heads words arcs w a) bound has_arcs
   row-built bound has_arcs =
       ap (λ (ls : List (List CoverRow)). record { cover = ls; words = drop (length words) words; arcs = drop (length arcs) arcs }) (row-ended starts heads words arcs w a bound has_arcs is.stored)
       ∙ (ap (λ l. record { cover = with_row (layers_of starts (map (row_of words arcs) heads)) (open_row (built starts heads words arcs w a) bound has_arcs); words = l; arcs = drop (length arcs) arcs }) (drop_all (length words) words (omega arith))
       ∙ ap (λ l. record { cover = with_row (layers_of starts (map (row_of words arcs) heads)) (open_row (built starts heads words arcs w a) bound has_arcs); words = []; arcs = l }) (drop_all (length arcs) arcs (omega arith)))
 
-  pub row-kept : (bound : Option ℤ) (has_arcs : Bool) → length (last_layer (layers_of starts (map (row_of words arcs) heads))) < 2 ^ 32 - 1 → IsBuilt starts (heads ++ head_behind bound has_arcs w (length words) a (length arcs) ∷ []) words arcs (length words) (length arcs)
+  pub row-kept : (bound : Option ℤ) (has_arcs : Bool) → length (last_layer (layers_of starts (map (row_of words arcs) heads))) < 2 ^ 32 - 1 → IsBuilt starts (heads ++ head_after bound has_arcs w (length words) a (length arcs) ∷ []) words arcs (length words) (length arcs)
   row-kept bound has_arcs few = record {
     stored = (let low = is.words_end in let arcs_low = is.arcs_end in let up : w + (length words - w) ≡ length words = omega arith in let arcs_up : a + (length arcs - a) ≡ length arcs = omega arith in
         rw (up, arcs_up) at (row-stored starts heads w a (length words - w) (length arcs - a) bound has_arcs is.stored));

@@ -18,7 +18,7 @@ first-alone : (a : Option Why) → a ≡ first_of a None
 first-alone None = refl
 first-alone (Some why) = refl
 
--- so many came
+-- this many came
 pub count-taken : (dp : Dp) (t : LayerTests) (layers : List (List CoverRow)) → (all_taken dp t layers).count ≡ t.count + length layers
 count-taken dp t [] = omega arith
 count-taken dp t (layer ∷ layers) = count-taken dp (taken dp t (layer ∷ [])) layers ∙ omega arith
@@ -29,25 +29,25 @@ taken-last dp t [] layer = refl
 taken-last dp t (next ∷ layers) layer = taken-last dp (taken dp t (next ∷ [])) layers layer
 
 -- all that come fail first where the layers from the one at hand on do
-behind : (dp : Dp) (k : ℕ) (t : LayerTests) (layers : List (List CoverRow)) → t.count ≡ suc k → k + length layers ≡ dp.vars
+following : (dp : Dp) (k : ℕ) (t : LayerTests) (layers : List (List CoverRow)) → t.count ≡ suc k → k + length layers ≡ dp.vars
     → first_of (all_taken dp t layers).why (last_rows_fault dp (layer_of (all_taken dp t layers).here 0)) ≡ first_of t.why (layers_fault dp k (layer_of t.here 0 ∷ layers))
-behind dp k t [] one long =
+following dp k t [] one long =
     let last : dp.vars ≡ k = omega arith in
     ap (first_of t.why) (ap (λ n. rows_fault dp n [] 0 (layer_of t.here 0)) last ∙ first-alone (rows_fault dp k [] 0 (layer_of t.here 0)))
-behind dp k t (layer ∷ layers) one long =
+following dp k t (layer ∷ layers) one long =
     let later : nat_eq t.count 0 ≡ false = grind arith in
     let back : t.count - 1 ≡ k = omega arith in
     let few : nat_lt k dp.vars ≡ true = grind arith in
     let fault : layer_fault dp t.claim t.count (layer_of t.here 0) layer ≡ rows_fault dp k layer 0 (layer_of t.here 0) = rw (later, back, few) refl in
-    behind dp (k + 1) (taken dp t (layer ∷ [])) layers (omega arith) (omega arith)
+    following dp (k + 1) (taken dp t (layer ∷ [])) layers (omega arith) (omega arith)
     ∙ (ap (λ why. first_of (first_of t.why why) (layers_fault dp (k + 1) (layer ∷ layers))) fault
     ∙ first-assoc t.why (rows_fault dp k layer 0 (layer_of t.here 0)) (layers_fault dp (k + 1) (layer ∷ layers)))
 
 -- from the first layer on
 from-first : (dp : Dp) (why : Option Why) (claim : Option ℤ) (layer : List CoverRow) (more : List (List CoverRow)) → length more ≡ dp.vars
     → first_of (all_taken dp (begun_with why claim) (layer ∷ more)).why (last_rows_fault dp (layer_of (all_taken dp (begun_with why claim) (layer ∷ more)).here 0)) ≡ first_of why (cover_fault dp claim (layer ∷ more))
-from-first dp None claim layer more long = behind dp 0 (taken dp (begun_with None claim) (layer ∷ [])) more refl (omega arith)
-from-first dp (Some why) claim layer more long = behind dp 0 (taken dp (begun_with (Some why) claim) (layer ∷ [])) more refl (omega arith)
+from-first dp None claim layer more long = following dp 0 (taken dp (begun_with None claim) (layer ∷ [])) more refl (omega arith)
+from-first dp (Some why) claim layer more long = following dp 0 (taken dp (begun_with (Some why) claim) (layer ∷ [])) more refl (omega arith)
 
 pub none-yet : (why : Option Why) (claim : Option ℤ) → (begun_with why claim).count ≡ 0
 none-yet None claim = refl

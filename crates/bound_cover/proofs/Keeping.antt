@@ -1,4 +1,4 @@
--- A row that passes its tests goes on passing them while rows are put behind those of the next layer, and while rows there get
+-- A row that passes its tests goes on passing them while rows are put after those of the next layer, and while rows there get
 -- other arcs.
 use Rattle.std.proofs.Common.{◌≡◌, ℕ, zero, suc, ◌+◌, nat_lt, ℤ, true, false, cond, ◌&&◌, List, [], ◌∷◌, ◌++◌, length, map, slice_get, Option, Some, None, ◌⊎◌, inl, inr, refl, sym, ◌∙◌, ap, subst, arith, zero-add}
 use Rattle.dp_model.specs.Dp.{Dp}
@@ -67,8 +67,8 @@ passes-kept dp k next more row keeps passes = λ i.
 pub keeps-same : (rows : List CoverRow) → Keeps rows rows
 keeps-same rows = λ t r at. record { row = r; at = at; words = refl; bound = refl }
 
-pub keeps-behind : (rows more : List CoverRow) → Keeps rows (rows ++ more)
-keeps-behind rows more = λ t r at. record { row = r; at = slice_get-append rows more t r at; words = refl; bound = refl }
+pub keeps-following : (rows more : List CoverRow) → Keeps rows (rows ++ more)
+keeps-following rows more = λ t r at. record { row = r; at = slice_get-append rows more t r at; words = refl; bound = refl }
 
 pub keeps-arcs : (place : ℕ) (arcs : List CoverArc) (rows : List CoverRow) → Keeps rows (with_arcs_at place arcs rows)
 keeps-arcs place arcs [] = λ t r at. absurd (let none : None ≡ Some r = at in cc)
@@ -108,24 +108,24 @@ arcs-cases (suc place) arcs (row ∷ rows) (suc i) r e = elim (arcs-cases place 
 ]
 
 -- an element of the second list
-pub record IsBehind {X : Type 0} (xs ys : List X) (i : ℕ) (x : X) : Type 0 where
+pub record IsAfter {X : Type 0} (xs ys : List X) (i : ℕ) (x : X) : Type 0 where
   pub place : ℕ
   pub at : slice_get ys place ≡ Some x
   pub is : i ≡ length xs + place
 
-pub append-cases : {X : Type 0} (xs ys : List X) (i : ℕ) (x : X) → slice_get (xs ++ ys) i ≡ Some x → (slice_get xs i ≡ Some x) ⊎ IsBehind xs ys i x
+pub append-cases : {X : Type 0} (xs ys : List X) (i : ℕ) (x : X) → slice_get (xs ++ ys) i ≡ Some x → (slice_get xs i ≡ Some x) ⊎ IsAfter xs ys i x
 append-cases [] ys i x e = inr (record { place = i; at = e; is = sym (zero-add i) })
 append-cases (y ∷ xs) ys zero x e = inl e
-append-cases (y ∷ xs) ys (suc i) x e = elim (append-cases xs ys i x e) as (λ _. (slice_get xs i ≡ Some x) ⊎ IsBehind (y ∷ xs) ys (suc i) x) [
+append-cases (y ∷ xs) ys (suc i) x e = elim (append-cases xs ys i x e) as (λ _. (slice_get xs i ≡ Some x) ⊎ IsAfter (y ∷ xs) ys (suc i) x) [
   | inl old ↦ inl old
   | inr b ↦ inr (record { place = b.place; at = b.at; is = (let is = b.is in omega arith) })
 ]
 
-pub append-behind : {X : Type 0} (xs ys : List X) (t : ℕ) → slice_get (xs ++ ys) (length xs + t) ≡ slice_get ys t
-append-behind [] ys t = ap (slice_get ys) (zero-add t)
-append-behind (x ∷ xs) ys t =
+pub append-following : {X : Type 0} (xs ys : List X) (t : ℕ) → slice_get (xs ++ ys) (length xs + t) ≡ slice_get ys t
+append-following [] ys t = ap (slice_get ys) (zero-add t)
+append-following (x ∷ xs) ys t =
     let e : length (x ∷ xs) + t ≡ suc (length xs + t) = omega arith in
-    ap (slice_get (x ∷ (xs ++ ys))) e ∙ append-behind xs ys t
+    ap (slice_get (x ∷ (xs ++ ys))) e ∙ append-following xs ys t
 
 -- what a list was made of
 pub map-cases : {X Y : Type 0} (f : X → Y) (xs : List X) (i : ℕ) (y : Y) → slice_get (map f xs) i ≡ Some y → (x : X) × (slice_get xs i ≡ Some x) × (f x ≡ y)

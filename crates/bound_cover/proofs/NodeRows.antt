@@ -21,7 +21,7 @@ use Rattle.bound_cover.specs.Tests.{is_at_most, is_state_row, arc_for, tested, g
 use Rattle.bound_cover.specs.Exploring.{rest_of, greater_of, is_deep, claim_of, moved, row_for}
 use Rattle.bound_cover.specs.DraftRows.{Passes}
 use Rattle.bound_cover.proofs.Faults.{first-both, unless-holds, cond-holds}
-use Rattle.bound_cover.proofs.Keeping.{append-behind}
+use Rattle.bound_cover.proofs.Keeping.{append-following}
 use Rattle.bound_cover.proofs.Rising.{Rises, rises-below, rises-filter, arc-for, with_listed-from}
 use Rattle.bound_cover.proofs.Claims.{at-most-through, add-greater, rest-step, struck-within, suffix-step}
 
@@ -111,7 +111,7 @@ node-arc dp laws p w best reduced k layer next l states short node has arc a gai
     let own : IsTrue (is_at_most (add_some (dp.gain k node.row d) rough) (rest_of best node.value)) = subst (λ z. IsTrue (is_at_most (add_some z rough) (rest_of best node.value))) gains low in
     unless-holds (is_at_most (add_some (dp.gain k node.row d) rough) bound) (Arc k i d) (at-most-through (add_some (dp.gain k node.row d) rough) (rest_of best node.value) bound own enough.rest)
 node-arc dp laws p w best reduced k layer next l states short node has arc a gains bound enough i o old before (Some place) aims leads =
-    let is : slice_get (next_rows dp best reduced k old before next) (length old + place) ≡ slice_get (map (row_for dp best reduced (k + 1) before) next) place = append-behind old (map (row_for dp best reduced (k + 1) before) next) place in
+    let is : slice_get (next_rows dp best reduced k old before next) (length old + place) ≡ slice_get (map (row_for dp best reduced (k + 1) before) next) place = append-following old (map (row_for dp best reduced (k + 1) before) next) place in
     to-node dp laws p w best reduced k layer next l states short node has arc a gains bound enough i o place (slice_get next place) aims refl leads
     (next_rows dp best reduced k old before next) before (length old + place) (is ∙ slice_get-map (row_for dp best reduced (k + 1) before) next place)
 

@@ -54,18 +54,18 @@ next-layer [] k h = absurd (omega arith)
 next-layer (layer ∷ cover) zero h = refl
 next-layer (layer ∷ cover) (suc k) h = next-layer cover k (omega arith)
 
-first-behind : (cover : List (List CoverRow)) (k : ℕ) → first_layer (drop k cover) ≡ layer_of cover k
-first-behind [] zero = refl
-first-behind [] (suc k) = refl
-first-behind (layer ∷ cover) zero = refl
-first-behind (layer ∷ cover) (suc k) = first-behind cover k
+first-following : (cover : List (List CoverRow)) (k : ℕ) → first_layer (drop k cover) ≡ layer_of cover k
+first-following [] zero = refl
+first-following [] (suc k) = refl
+first-following (layer ∷ cover) zero = refl
+first-following (layer ∷ cover) (suc k) = first-following cover k
 
 open-layer : (dp : Dp) (k : ℕ) (cover : List (List CoverRow)) → k < length cover → layers_fault dp k (drop k cover) ≡ first_of (rows_fault dp k (layer_of cover (k + 1)) 0 (layer_of cover k)) (layers_fault dp (k + 1) (drop (k + 1) cover))
 open-layer dp k cover inside =
     let up : suc k ≡ k + 1 = omega arith in
     ap (layers_fault dp k) (next-layer cover k inside)
     ∙ (ap (λ n. first_of (rows_fault dp k (first_layer (drop n cover)) 0 (layer_of cover k)) (layers_fault dp (k + 1) (drop n cover))) up
-    ∙ ap (λ l. first_of (rows_fault dp k l 0 (layer_of cover k)) (layers_fault dp (k + 1) (drop (k + 1) cover))) (first-behind cover (k + 1)))
+    ∙ ap (λ l. first_of (rows_fault dp k l 0 (layer_of cover k)) (layers_fault dp (k + 1) (drop (k + 1) cover))) (first-following cover (k + 1)))
 
 pub layer-fails : (dp : Dp) (k n : ℕ) (cover : List (List CoverRow)) (why : Option Why) → layers_fault dp k (drop k cover) ≡ layers_fault dp 0 cover → k < n → n ≡ length cover
     → why ≡ rows_fault dp k (layer_of cover (k + 1)) 0 (layer_of cover k) → true ≡ is_some why → why ≡ layers_fault dp 0 cover

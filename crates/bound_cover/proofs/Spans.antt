@@ -1,10 +1,10 @@
--- The spans of heads: at a place, and where a further head is put behind.
+-- The spans of heads: at a place, and where a further head is put after.
 use Rattle.std.proofs.Common.{◌≡◌, ℕ, zero, suc, ◌-◌, ◌<◌, Bool, ℤ, List, [], ◌∷◌, ◌++◌, length, slice_get, Option, Some, None, refl, ◌∙◌, ap, subst, arith}
 use Rattle.dp_laws.proofs.Diagrams.Places.{same-Some}
 use Rattle.bound_cover.specs.declared.storing.Head.{Head}
 use Rattle.bound_cover.specs.declared.storing.Span.{Span}
 use Rattle.bound_cover.specs.Stored.{span_of, spans_from, spans, end_of_words, end_of_arcs, BeginsAt}
-use Rattle.bound_cover.proofs.Blocks.{head_behind}
+use Rattle.bound_cover.proofs.Blocks.{head_after}
 
 pub length-spans : (w a : ℕ) (heads : List Head) → length (spans_from w a heads) ≡ length heads
 length-spans w a [] = refl
@@ -12,34 +12,34 @@ length-spans w a (head ∷ heads) = ap suc (length-spans head.words_to head.arcs
 
 -- ---- a further head
 
-behind-from : (w a : ℕ) (heads : List Head) (head : Head) → spans_from w a (heads ++ head ∷ []) ≡ spans_from w a heads ++ span_of (end_of_words w heads) (end_of_arcs a heads) head ∷ []
-behind-from w a [] head = refl
-behind-from w a (first ∷ heads) head = ap (λ l. span_of w a first ∷ l) (behind-from first.words_to first.arcs_to heads head)
+following-from : (w a : ℕ) (heads : List Head) (head : Head) → spans_from w a (heads ++ head ∷ []) ≡ spans_from w a heads ++ span_of (end_of_words w heads) (end_of_arcs a heads) head ∷ []
+following-from w a [] head = refl
+following-from w a (first ∷ heads) head = ap (λ l. span_of w a first ∷ l) (following-from first.words_to first.arcs_to heads head)
 
-words-behind : (w : ℕ) (heads : List Head) (head : Head) → end_of_words w (heads ++ head ∷ []) ≡ head.words_to
-words-behind w [] head = refl
-words-behind w (first ∷ heads) head = words-behind first.words_to heads head
+words-following : (w : ℕ) (heads : List Head) (head : Head) → end_of_words w (heads ++ head ∷ []) ≡ head.words_to
+words-following w [] head = refl
+words-following w (first ∷ heads) head = words-following first.words_to heads head
 
-arcs-behind : (a : ℕ) (heads : List Head) (head : Head) → end_of_arcs a (heads ++ head ∷ []) ≡ head.arcs_to
-arcs-behind a [] head = refl
-arcs-behind a (first ∷ heads) head = arcs-behind first.arcs_to heads head
+arcs-following : (a : ℕ) (heads : List Head) (head : Head) → end_of_arcs a (heads ++ head ∷ []) ≡ head.arcs_to
+arcs-following a [] head = refl
+arcs-following a (first ∷ heads) head = arcs-following first.arcs_to heads head
 
 -- the head shows such a span, wherever its words and arcs begin
 abbrev pub Shows : Option ℤ → Bool → ℕ → ℕ → Head → Type 0
-Shows bound has_arcs words_to arcs_to head = (words_from arcs_from : ℕ) → span_of words_from arcs_from head ≡ head_behind bound has_arcs words_from words_to arcs_from arcs_to
+Shows bound has_arcs words_to arcs_to head = (words_from arcs_from : ℕ) → span_of words_from arcs_from head ≡ head_after bound has_arcs words_from words_to arcs_from arcs_to
 
-pub spans-behind : (heads : List Head) (head : Head) (bound : Option ℤ) (has_arcs : Bool) (w words_to a arcs_to : ℕ) → BeginsAt w a heads → Shows bound has_arcs words_to arcs_to head
-    → spans (heads ++ head ∷ []) ≡ spans heads ++ head_behind bound has_arcs w words_to a arcs_to ∷ []
-spans-behind heads head bound has_arcs w words_to a arcs_to at shows =
-    behind-from 0 0 heads head
+pub spans-following : (heads : List Head) (head : Head) (bound : Option ℤ) (has_arcs : Bool) (w words_to a arcs_to : ℕ) → BeginsAt w a heads → Shows bound has_arcs words_to arcs_to head
+    → spans (heads ++ head ∷ []) ≡ spans heads ++ head_after bound has_arcs w words_to a arcs_to ∷ []
+spans-following heads head bound has_arcs w words_to a arcs_to at shows =
+    following-from 0 0 heads head
     ∙ (ap (λ (n : ℕ). spans heads ++ span_of n (end_of_arcs 0 heads) head ∷ []) at.words_at
     ∙ (ap (λ (n : ℕ). spans heads ++ span_of w n head ∷ []) at.arcs_at
     ∙ ap (λ (s : Span). spans heads ++ s ∷ []) (shows w a)))
 
-pub begins-behind : (heads : List Head) (head : Head) (bound : Option ℤ) (has_arcs : Bool) (words_to arcs_to : ℕ) → Shows bound has_arcs words_to arcs_to head → BeginsAt words_to arcs_to (heads ++ head ∷ [])
-begins-behind heads head bound has_arcs words_to arcs_to shows = record {
-  words_at = words-behind 0 heads head ∙ ap (λ (s : Span). s.words_to) (shows 0 0);
-  arcs_at = arcs-behind 0 heads head ∙ ap (λ (s : Span). s.arcs_to) (shows 0 0);
+pub begins-following : (heads : List Head) (head : Head) (bound : Option ℤ) (has_arcs : Bool) (words_to arcs_to : ℕ) → Shows bound has_arcs words_to arcs_to head → BeginsAt words_to arcs_to (heads ++ head ∷ [])
+begins-following heads head bound has_arcs words_to arcs_to shows = record {
+  words_at = words-following 0 heads head ∙ ap (λ (s : Span). s.words_to) (shows 0 0);
+  arcs_at = arcs-following 0 heads head ∙ ap (λ (s : Span). s.arcs_to) (shows 0 0);
 }
 
 -- ---- the span at a place

@@ -14,7 +14,7 @@ use Rattle.bound_cover.specs.Tests.{is_at_most, is_state_row}
 use Rattle.bound_cover.specs.Verdicts.{covers_root, has_root, root_test}
 use Rattle.bound_cover.specs.Exploring.{HoldsAll, needed_layers, layer_of, rest_of, greater_of, is_deep, is_last_exact, claim_of, leads_above, moved, row_for, Waiting, with_arcs_at, arcs_of_first, explored, waiting_in, waiting_after}
 use Rattle.bound_cover.specs.DraftRows.{Passes, IsWaiting, IsDraft}
-use Rattle.bound_cover.proofs.Keeping.{Keeps, keeps-same, keeps-behind, keeps-arcs, append-behind, map-at}
+use Rattle.bound_cover.proofs.Keeping.{Keeps, keeps-same, keeps-following, keeps-arcs, append-following, map-at}
 use Rattle.bound_cover.proofs.Claims.{at-most-self, greater-left, greater-right, suffix-within}
 use Rattle.bound_cover.proofs.NodeRows.{IsEnough, row_with, passes-node}
 use Rattle.bound_cover.proofs.Placing.{needed-above, layer-beyond, explored-at, keeps-layer, layer-states, reached-at}
@@ -59,7 +59,7 @@ keeps-after dp best q d rows long j =
             | true ↦ keeps-same (layer_of rows j)
             | false ↦ elim (nat_eq j (length q.prefix)) as (λ b. Keeps (layer_of rows j) (cond b (with_arcs_at q.place (map (moved (length (layer_of rows (j + 1)))) (arcs_of_first (layer_of d.layers 0))) (layer_of rows j)) (layer_of rows j ++ map (row_for dp best d.first_reduced j (length (layer_of rows (j + 1)))) (layer_of (needed_layers best (length q.prefix) d d.first_reduced) (j - length q.prefix))))) [
               | true ↦ keeps-arcs q.place (map (moved (length (layer_of rows (j + 1)))) (arcs_of_first (layer_of d.layers 0))) (layer_of rows j)
-              | false ↦ keeps-behind (layer_of rows j) (map (row_for dp best d.first_reduced j (length (layer_of rows (j + 1)))) (layer_of (needed_layers best (length q.prefix) d d.first_reduced) (j - length q.prefix)))
+              | false ↦ keeps-following (layer_of rows j) (map (row_for dp best d.first_reduced j (length (layer_of rows (j + 1)))) (layer_of (needed_layers best (length q.prefix) d d.first_reduced) (j - length q.prefix)))
             ]
           ])
     ]
@@ -138,7 +138,7 @@ new-waits dp best w rows q rest d s (Some depth) e =
     let is = reached-at dp q.prefix w best d h (suc m) inside above node (Has-at (layer_of d.layers (suc m)) t node at) in
     let deep : length node.path ≡ c = is.depth ∙ sym place in
     let stands : slice_get (layer_of (explored dp best q d rows) c) (length (layer_of rows c) + t) ≡ Some (row node) =
-    ap (λ l. slice_get l (length (layer_of rows c) + t)) layer ∙ (append-behind (layer_of rows c) (map row (layer_of d.layers (suc m))) t ∙ map-at row (layer_of d.layers (suc m)) t node at) in
+    ap (λ l. slice_get l (length (layer_of rows c) + t)) layer ∙ (append-following (layer_of rows c) (map row (layer_of d.layers (suc m))) t ∙ map-at row (layer_of d.layers (suc m)) t node at) in
     record {
       prefix = is.prefix;
       short = omega arith;

@@ -9,9 +9,9 @@ use Rattle.bound_cover.specs.declared.cover.Why.{Why}
 use Rattle.bound_cover.specs.declared.cover.Why.TheVariants.{Target}
 use Rattle.bound_cover.specs.Covers.{CoverRow}
 use Rattle.bound_cover.specs.Tests.{tested, decisions_fault}
-use Rattle.bound_cover.specs.Walking.{least_behind, lesser, at_hand, decision_of, step_fault}
+use Rattle.bound_cover.specs.Walking.{least_after, lesser, at_hand, decision_of, step_fault}
 use Rattle.bound_cover.proofs.Walking.{rest_fault, IsWalked}
-use Rattle.bound_cover.proofs.Walked.{place_after, walks-on, walk-fails, walk-behind, walk-ends}
+use Rattle.bound_cover.proofs.Walked.{place_after, walks-on, walk-fails, walk-following, walk-ends}
 
 found : (o : Option ℕ) (d : ℕ) → true ≡ option_eq eqb o (Some d) → o ≡ Some d
 found None d h = absurd (let clash : true ≡ false = h in cc)
@@ -31,25 +31,25 @@ holds-some : {X : Type 0} (o : Option X) → true ≡ is_some o → (x : X) × (
 holds-some None h = absurd (let clash : true ≡ false = h in cc)
 holds-some (Some x) h = (x, refl)
 
-pub turn-behind : (dp : Dp) (k i : ℕ) (next : List CoverRow) (row : CoverRow) (arcs : List CoverArc) (place d : ℕ) (behind : Option ℕ) → IsWalked dp k i next row arcs place d → behind ≡ least_behind 0 arcs → true ≡ option_eq eqb behind (Some d)
+pub turn-following : (dp : Dp) (k i : ℕ) (next : List CoverRow) (row : CoverRow) (arcs : List CoverArc) (place d : ℕ) (following : Option ℕ) → IsWalked dp k i next row arcs place d → following ≡ least_after 0 arcs → true ≡ option_eq eqb following (Some d)
     → Some (Target k i d) ≡ decisions_fault dp k i next row arcs (tested dp k row.words arcs)
-turn-behind dp k i next row arcs place d behind w is h = sym (walk-behind dp k i next row arcs place d w (sym is ∙ found behind d h))
+turn-following dp k i next row arcs place d following w is h = sym (walk-following dp k i next row arcs place d w (sym is ∙ found following d h))
 
-pub turn-fails : (dp : Dp) (k i : ℕ) (next : List CoverRow) (row : CoverRow) (arcs : List CoverArc) (place d choices : ℕ) (behind : Option ℕ) (arc : Option CoverArc) (result : Option Why) → choices ≡ dp.choices k → d < choices → IsWalked dp k i next row arcs place d
-    → behind ≡ least_behind 0 arcs → false ≡ option_eq eqb behind (Some d) → arc ≡ at_hand d (slice_get arcs place) → result ≡ step_fault dp k i next row d (dp.allowed k row.words d) arc → true ≡ is_some result
+pub turn-fails : (dp : Dp) (k i : ℕ) (next : List CoverRow) (row : CoverRow) (arcs : List CoverArc) (place d choices : ℕ) (following : Option ℕ) (arc : Option CoverArc) (result : Option Why) → choices ≡ dp.choices k → d < choices → IsWalked dp k i next row arcs place d
+    → following ≡ least_after 0 arcs → false ≡ option_eq eqb following (Some d) → arc ≡ at_hand d (slice_get arcs place) → result ≡ step_fault dp k i next row d (dp.allowed k row.words d) arc → true ≡ is_some result
     → result ≡ decisions_fault dp k i next row arcs (tested dp k row.words arcs)
-turn-fails dp k i next row arcs place d choices behind arc result count less w is h hand step some =
+turn-fails dp k i next row arcs place d choices following arc result count less w is h hand step some =
     let why = holds-some result some in
     let inside : d < dp.choices k = subst (λ n. d < n) count less in
-    why.1 ∙ sym (walk-fails dp k i next row arcs place d why.0 inside w (λ e. not-found behind d h (is ∙ e)) (ap (step_fault dp k i next row d (dp.allowed k row.words d)) (sym hand) ∙ (sym step ∙ why.1)))
+    why.1 ∙ sym (walk-fails dp k i next row arcs place d why.0 inside w (λ e. not-found following d h (is ∙ e)) (ap (step_fault dp k i next row d (dp.allowed k row.words d)) (sym hand) ∙ (sym step ∙ why.1)))
 
-pub turn-on : (dp : Dp) (k i : ℕ) (next : List CoverRow) (row : CoverRow) (arcs : List CoverArc) (place d choices : ℕ) (behind : Option ℕ) (arc : Option CoverArc) (result : Option Why) → choices ≡ dp.choices k → d < choices → IsWalked dp k i next row arcs place d
-    → behind ≡ least_behind 0 arcs → false ≡ option_eq eqb behind (Some d) → arc ≡ at_hand d (slice_get arcs place) → result ≡ step_fault dp k i next row d (dp.allowed k row.words d) arc → false ≡ is_some result
+pub turn-on : (dp : Dp) (k i : ℕ) (next : List CoverRow) (row : CoverRow) (arcs : List CoverArc) (place d choices : ℕ) (following : Option ℕ) (arc : Option CoverArc) (result : Option Why) → choices ≡ dp.choices k → d < choices → IsWalked dp k i next row arcs place d
+    → following ≡ least_after 0 arcs → false ≡ option_eq eqb following (Some d) → arc ≡ at_hand d (slice_get arcs place) → result ≡ step_fault dp k i next row d (dp.allowed k row.words d) arc → false ≡ is_some result
     → IsWalked dp k i next row arcs (place_after place arc) (d + 1)
-turn-on dp k i next row arcs place d choices behind arc result count less w is h hand step none =
+turn-on dp k i next row arcs place d choices following arc result count less w is h hand step none =
     let inside : d < dp.choices k = subst (λ n. d < n) count less in
     subst (λ o. IsWalked dp k i next row arcs (place_after place o) (d + 1)) (sym hand)
-    (walks-on dp k i next row arcs place d inside w (λ e. not-found behind d h (is ∙ e)) (ap (step_fault dp k i next row d (dp.allowed k row.words d)) (sym hand) ∙ (sym step ∙ holds-none result none)))
+    (walks-on dp k i next row arcs place d inside w (λ e. not-found following d h (is ∙ e)) (ap (step_fault dp k i next row d (dp.allowed k row.words d)) (sym hand) ∙ (sym step ∙ holds-none result none)))
 
 pub after-some : (place : ℕ) (o : Option CoverArc) → true ≡ is_some o → place_after place o ≡ place + 1
 after-some place None h = absurd (let clash : true ≡ false = h in cc)
@@ -59,9 +59,9 @@ pub after-none : (place : ℕ) (o : Option CoverArc) → false ≡ is_some o →
 after-none place None h = refl
 after-none place (Some arc) h = absurd (let clash : false ≡ true = h in cc)
 
-pub turn-ends : (dp : Dp) (k i : ℕ) (next : List CoverRow) (row : CoverRow) (arcs : List CoverArc) (place d choices : ℕ) (behind left : Option ℕ) → choices ≡ dp.choices k → d ≤ choices → choices ≤ d → IsWalked dp k i next row arcs place d
-    → behind ≡ least_behind 0 arcs → left ≡ lesser behind (decision_of (slice_get arcs place)) → rest_fault k i left ≡ decisions_fault dp k i next row arcs (tested dp k row.words arcs)
-turn-ends dp k i next row arcs place d choices behind left count low high w is rest =
+pub turn-ends : (dp : Dp) (k i : ℕ) (next : List CoverRow) (row : CoverRow) (arcs : List CoverArc) (place d choices : ℕ) (following left : Option ℕ) → choices ≡ dp.choices k → d ≤ choices → choices ≤ d → IsWalked dp k i next row arcs place d
+    → following ≡ least_after 0 arcs → left ≡ lesser following (decision_of (slice_get arcs place)) → rest_fault k i left ≡ decisions_fault dp k i next row arcs (tested dp k row.words arcs)
+turn-ends dp k i next row arcs place d choices following left count low high w is rest =
     let all : dp.choices k ≡ d = omega arith in
     sym (walk-ends dp k i next row arcs place d all w left (ap (λ b. lesser b (decision_of (slice_get arcs place))) (sym is) ∙ sym rest))
 

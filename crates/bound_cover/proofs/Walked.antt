@@ -12,11 +12,11 @@ use Rattle.bound_cover.specs.declared.cover.Why.{Why}
 use Rattle.bound_cover.specs.declared.cover.Why.TheVariants.{Target}
 use Rattle.bound_cover.specs.Covers.{CoverRow}
 use Rattle.bound_cover.specs.Tests.{lists, arc_for, tested, arc_fault, listed_fault, decision_fault, decisions_fault}
-use Rattle.bound_cover.specs.Walking.{lesser, least_behind, at_hand, step_fault, decision_of}
+use Rattle.bound_cover.specs.Walking.{lesser, least_after, at_hand, step_fault, decision_of}
 use Rattle.bound_cover.proofs.Walking.{IsBefore, IsUpTo, rest_fault, IsWalked}
 use Rattle.bound_cover.proofs.Faults.{Has-with_listed}
 use Rattle.bound_cover.proofs.Rising.{with_listed-from}
-use Rattle.bound_cover.proofs.Walks.{rises-tested, least-first, none-fails, listed-tested, before-lesser, not-listed, listed-is, lesser-is, arc-at, arc-missing, arc-ended, behind-missing}
+use Rattle.bound_cover.proofs.Walks.{rises-tested, least-first, none-fails, listed-tested, before-lesser, not-listed, listed-is, lesser-is, arc-at, arc-missing, arc-ended, following-missing}
 
 -- ---- the arcs around the one at hand
 
@@ -38,34 +38,34 @@ lists-none d (a ∷ arcs) all =
     let other : nat_eq a.decision d ≡ false = grind arith in
     rw other (lists-none d arcs all.1)
 
--- a decision below the arc at hand, and below the least behind, is not listed
-unlisted : (low d : ℕ) (before : List CoverArc) (arc : CoverArc) (after : List CoverArc) → low ≤ d → Each (λ (a : CoverArc). a.decision < d) before → d < arc.decision → IsBefore d (least_behind low (before ++ arc ∷ after)) → lists d (before ++ arc ∷ after) ≡ false
+-- a decision below the arc at hand, and below the least after, is not listed
+unlisted : (low d : ℕ) (before : List CoverArc) (arc : CoverArc) (after : List CoverArc) → low ≤ d → Each (λ (a : CoverArc). a.decision < d) before → d < arc.decision → IsBefore d (least_after low (before ++ arc ∷ after)) → lists d (before ++ arc ∷ after) ≡ false
 unlisted low d [] arc after up all more h =
     let other : nat_eq arc.decision d ≡ false = grind arith in
     let above : nat_lt arc.decision low ≡ false = grind arith in
-    let rest : IsBefore d (least_behind (arc.decision + 1) after) = subst (λ b. IsBefore d (cond b (lesser (Some arc.decision) (least_behind low after)) (least_behind (arc.decision + 1) after))) above h in
+    let rest : IsBefore d (least_after (arc.decision + 1) after) = subst (λ b. IsBefore d (cond b (lesser (Some arc.decision) (least_after low after)) (least_after (arc.decision + 1) after))) above h in
     rw other (not-listed (arc.decision + 1) d after (omega arith) rest)
 unlisted low d (a ∷ before) arc after up all more h =
     let less : a.decision < d = all.0 in
     let other : nat_eq a.decision d ≡ false = grind arith in
-    elim (nat_lt a.decision low) as (λ b. nat_lt a.decision low ≡ b → IsBefore d (cond b (lesser (Some a.decision) (least_behind low (before ++ arc ∷ after))) (least_behind (a.decision + 1) (before ++ arc ∷ after))) → lists d (a ∷ (before ++ arc ∷ after)) ≡ false) [
-      | true ↦ λ t g. absurd (let parts = before-lesser d a.decision (least_behind low (before ++ arc ∷ after)) g in let more' = parts.0 in omega arith)
+    elim (nat_lt a.decision low) as (λ b. nat_lt a.decision low ≡ b → IsBefore d (cond b (lesser (Some a.decision) (least_after low (before ++ arc ∷ after))) (least_after (a.decision + 1) (before ++ arc ∷ after))) → lists d (a ∷ (before ++ arc ∷ after)) ≡ false) [
+      | true ↦ λ t g. absurd (let parts = before-lesser d a.decision (least_after low (before ++ arc ∷ after)) g in let more' = parts.0 in omega arith)
       | false ↦ λ t g. rw other (unlisted (a.decision + 1) d before arc after (omega arith) all.1 more g)
     ] refl h
 
--- behind the arc of a decision below the least behind stands a greater one
-greater-next : (low d : ℕ) (before : List CoverArc) (arc next : CoverArc) (after : List CoverArc) → low ≤ d → Each (λ (a : CoverArc). a.decision < d) before → arc.decision ≡ d → IsBefore d (least_behind low (before ++ arc ∷ next ∷ after)) → d < next.decision
+-- after the arc of a decision below the least after stands a greater one
+greater-next : (low d : ℕ) (before : List CoverArc) (arc next : CoverArc) (after : List CoverArc) → low ≤ d → Each (λ (a : CoverArc). a.decision < d) before → arc.decision ≡ d → IsBefore d (least_after low (before ++ arc ∷ next ∷ after)) → d < next.decision
 greater-next low d [] arc next after up all same h =
     let above : nat_lt arc.decision low ≡ false = grind arith in
-    let rest : IsBefore d (least_behind (arc.decision + 1) (next ∷ after)) = subst (λ b. IsBefore d (cond b (lesser (Some arc.decision) (least_behind low (next ∷ after))) (least_behind (arc.decision + 1) (next ∷ after)))) above h in
-    elim (nat_lt next.decision (arc.decision + 1)) as (λ b. nat_lt next.decision (arc.decision + 1) ≡ b → IsBefore d (cond b (lesser (Some next.decision) (least_behind (arc.decision + 1) after)) (least_behind (next.decision + 1) after)) → d < next.decision) [
-      | true ↦ λ t g. (before-lesser d next.decision (least_behind (arc.decision + 1) after) g).0
+    let rest : IsBefore d (least_after (arc.decision + 1) (next ∷ after)) = subst (λ b. IsBefore d (cond b (lesser (Some arc.decision) (least_after low (next ∷ after))) (least_after (arc.decision + 1) (next ∷ after)))) above h in
+    elim (nat_lt next.decision (arc.decision + 1)) as (λ b. nat_lt next.decision (arc.decision + 1) ≡ b → IsBefore d (cond b (lesser (Some next.decision) (least_after (arc.decision + 1) after)) (least_after (next.decision + 1) after)) → d < next.decision) [
+      | true ↦ λ t g. (before-lesser d next.decision (least_after (arc.decision + 1) after) g).0
       | false ↦ λ t g. grind arith
     ] refl rest
 greater-next low d (a ∷ before) arc next after up all same h =
     let less : a.decision < d = all.0 in
-    elim (nat_lt a.decision low) as (λ b. nat_lt a.decision low ≡ b → IsBefore d (cond b (lesser (Some a.decision) (least_behind low (before ++ arc ∷ next ∷ after))) (least_behind (a.decision + 1) (before ++ arc ∷ next ∷ after))) → d < next.decision) [
-      | true ↦ λ t g. absurd (let parts = before-lesser d a.decision (least_behind low (before ++ arc ∷ next ∷ after)) g in let more' = parts.0 in omega arith)
+    elim (nat_lt a.decision low) as (λ b. nat_lt a.decision low ≡ b → IsBefore d (cond b (lesser (Some a.decision) (least_after low (before ++ arc ∷ next ∷ after))) (least_after (a.decision + 1) (before ++ arc ∷ next ∷ after))) → d < next.decision) [
+      | true ↦ λ t g. absurd (let parts = before-lesser d a.decision (least_after low (before ++ arc ∷ next ∷ after)) g in let more' = parts.0 in omega arith)
       | false ↦ λ t g. greater-next (a.decision + 1) d before arc next after (omega arith) all.1 same g
     ] refl h
 
@@ -94,14 +94,14 @@ pub record IsAtHand (arcs : List CoverArc) (place d : ℕ) (o : Option CoverArc)
   pub none : o ≡ None → lists d arcs ≡ false
   pub some : (arc : CoverArc) → o ≡ Some arc → (slice_get arcs place ≡ Some arc) × (arc.decision ≡ d)
 
-at-hand-is : (dp : Dp) (k i : ℕ) (next : List CoverRow) (row : CoverRow) (arcs : List CoverArc) (place d : ℕ) → IsWalked dp k i next row arcs place d → IsBefore d (least_behind 0 arcs) → (o : Option CoverArc) → slice_get arcs place ≡ o → IsAtHand arcs place d (at_hand d o)
+at-hand-is : (dp : Dp) (k i : ℕ) (next : List CoverRow) (row : CoverRow) (arcs : List CoverArc) (place d : ℕ) → IsWalked dp k i next row arcs place d → IsBefore d (least_after 0 arcs) → (o : Option CoverArc) → slice_get arcs place ≡ o → IsAtHand arcs place d (at_hand d o)
 at-hand-is dp k i next row arcs place d w under None e =
     let all : Each (λ (a : CoverArc). a.decision < d) arcs = subst (λ l. Each (λ (a : CoverArc). a.decision < d) l) (take_all place arcs (beyond arcs place e)) w.before in
     record { for = arc-ended d arcs all; none = λ _. lists-none d arcs all; some = λ arc h. absurd (let clash : None ≡ Some arc = h in cc) }
 at-hand-is dp k i next row arcs place d w under (Some arc) e =
     let split = split-at arcs place arc e in
     let low : d ≤ arc.decision = w.at arc e in
-    let under' : IsBefore d (least_behind 0 (take place arcs ++ arc ∷ drop (suc place) arcs)) = subst (λ l. IsBefore d (least_behind 0 l)) split under in
+    let under' : IsBefore d (least_after 0 (take place arcs ++ arc ∷ drop (suc place) arcs)) = subst (λ l. IsBefore d (least_after 0 l)) split under in
     elim (nat_eq arc.decision d) as (λ b. nat_eq arc.decision d ≡ b → IsAtHand arcs place d (cond b (Some arc) None)) [
       | true ↦ λ t. (
           let same : arc.decision ≡ d = grind arith in
@@ -200,7 +200,7 @@ place_after place None = place
 place_after place (Some arc) = place + 1
 
 -- the walk goes on
-walk-on : (dp : Dp) (k i : ℕ) (next : List CoverRow) (row : CoverRow) (arcs : List CoverArc) (place d : ℕ) (o : Option CoverArc) → d < dp.choices k → IsWalked dp k i next row arcs place d → IsBefore d (least_behind 0 arcs) → at_hand d (slice_get arcs place) ≡ o → IsAtHand arcs place d o
+walk-on : (dp : Dp) (k i : ℕ) (next : List CoverRow) (row : CoverRow) (arcs : List CoverArc) (place d : ℕ) (o : Option CoverArc) → d < dp.choices k → IsWalked dp k i next row arcs place d → IsBefore d (least_after 0 arcs) → at_hand d (slice_get arcs place) ≡ o → IsAtHand arcs place d o
     → step_fault dp k i next row d (dp.allowed k row.words d) o ≡ None → IsWalked dp k i next row arcs (place_after place o) (d + 1)
 walk-on dp k i next row arcs place d None less w under is h e = record {
   inside = w.inside;
@@ -209,7 +209,7 @@ walk-on dp k i next row arcs place d None less w under is h e = record {
       let low : d ≤ arc.decision = w.at arc at in
       let other : nat_eq arc.decision d ≡ false = not-equal d arc (ap (at_hand d) (sym at) ∙ is) in
       grind arith);
-  behind = before-next d (least_behind 0 arcs) under;
+  following = before-next d (least_after 0 arcs) under;
   fine = λ x has below'. (
       let split : (x < d) ⊎ (d ≡ x) = grind arith in
       elim split as (λ _. decision_fault dp k i next row arcs x ≡ None) [
@@ -229,9 +229,9 @@ walk-on dp k i next row arcs place d (Some arc) less w under is h e =
       at = λ other there. (
           let there' : slice_get arcs (suc place) ≡ Some other = subst (λ n. slice_get arcs n ≡ Some other) next-place there in
           let whole : arcs ≡ take place arcs ++ arc ∷ other ∷ drop (suc (suc place)) arcs = split ∙ ap (λ l. take place arcs ++ arc ∷ l) (get-drop arcs (suc place) other there') in
-          let more : d < other.decision = greater-next 0 d (take place arcs) arc other (drop (suc (suc place)) arcs) (omega arith) w.before at.1 (subst (λ l. IsBefore d (least_behind 0 l)) whole under) in
+          let more : d < other.decision = greater-next 0 d (take place arcs) arc other (drop (suc (suc place)) arcs) (omega arith) w.before at.1 (subst (λ l. IsBefore d (least_after 0 l)) whole under) in
           omega arith);
-      behind = before-next d (least_behind 0 arcs) under;
+      following = before-next d (least_after 0 arcs) under;
       fine = λ x has below'. (
           let cases : (x < d) ⊎ (d ≡ x) = grind arith in
           elim cases as (λ _. decision_fault dp k i next row arcs x ≡ None) [
@@ -241,23 +241,23 @@ walk-on dp k i next row arcs place d (Some arc) less w under is h e =
     }
 
 -- a turn of the walk that goes on
-pub walks-on : (dp : Dp) (k i : ℕ) (next : List CoverRow) (row : CoverRow) (arcs : List CoverArc) (place d : ℕ) → d < dp.choices k → IsWalked dp k i next row arcs place d → (least_behind 0 arcs ≡ Some d → ⊥)
+pub walks-on : (dp : Dp) (k i : ℕ) (next : List CoverRow) (row : CoverRow) (arcs : List CoverArc) (place d : ℕ) → d < dp.choices k → IsWalked dp k i next row arcs place d → (least_after 0 arcs ≡ Some d → ⊥)
     → step_fault dp k i next row d (dp.allowed k row.words d) (at_hand d (slice_get arcs place)) ≡ None → IsWalked dp k i next row arcs (place_after place (at_hand d (slice_get arcs place))) (d + 1)
 walks-on dp k i next row arcs place d less w other e =
-    let under = up-to-before d (least_behind 0 arcs) w.behind other in
+    let under = up-to-before d (least_after 0 arcs) w.following other in
     walk-on dp k i next row arcs place d (at_hand d (slice_get arcs place)) less w under refl (at-hand-is dp k i next row arcs place d w under (slice_get arcs place) refl) e
 
 -- a turn that fails
-pub walk-fails : (dp : Dp) (k i : ℕ) (next : List CoverRow) (row : CoverRow) (arcs : List CoverArc) (place d : ℕ) (why : Why) → d < dp.choices k → IsWalked dp k i next row arcs place d → (least_behind 0 arcs ≡ Some d → ⊥)
+pub walk-fails : (dp : Dp) (k i : ℕ) (next : List CoverRow) (row : CoverRow) (arcs : List CoverArc) (place d : ℕ) (why : Why) → d < dp.choices k → IsWalked dp k i next row arcs place d → (least_after 0 arcs ≡ Some d → ⊥)
     → step_fault dp k i next row d (dp.allowed k row.words d) (at_hand d (slice_get arcs place)) ≡ Some why → decisions_fault dp k i next row arcs (tested dp k row.words arcs) ≡ Some why
 walk-fails dp k i next row arcs place d why less w other e =
-    let under = up-to-before d (least_behind 0 arcs) w.behind other in
+    let under = up-to-before d (least_after 0 arcs) w.following other in
     let h = at-hand-is dp k i next row arcs place d w under (slice_get arcs place) refl in
     let o = at_hand d (slice_get arcs place) in
     let has = fails-tested dp k i next row arcs place d o why less h e in
     least-first dp k i next row arcs (tested dp k row.words arcs) d why (rises-tested dp k row.words arcs) has w.fine (step-is dp k i next row arcs place d o less h has ∙ e)
 
--- the least decision that stands behind one as great fails
+-- the least decision that stands after one as great fails
 missing-fails : (dp : Dp) (k i : ℕ) (next : List CoverRow) (row : CoverRow) (arcs : List CoverArc) (d : ℕ) → arc_for d arcs ≡ None → decision_fault dp k i next row arcs d ≡ Some (Target k i d)
 missing-fails dp k i next row arcs d e =
     elim (nat_lt d (dp.choices k) && dp.allowed k row.words d) as (λ b. cond b (listed_fault dp k i next row d (arc_for d arcs)) (Some (Target k i d)) ≡ Some (Target k i d)) [
@@ -265,17 +265,17 @@ missing-fails dp k i next row arcs d e =
       | false ↦ refl
     ]
 
-behind-fails : (dp : Dp) (k i : ℕ) (next : List CoverRow) (row : CoverRow) (arcs : List CoverArc) (b : ℕ) → least_behind 0 arcs ≡ Some b → Has b (tested dp k row.words arcs) × (decision_fault dp k i next row arcs b ≡ Some (Target k i b))
-behind-fails dp k i next row arcs b e =
-    let is = behind-missing 0 arcs b e in (
+following-fails : (dp : Dp) (k i : ℕ) (next : List CoverRow) (row : CoverRow) (arcs : List CoverArc) (b : ℕ) → least_after 0 arcs ≡ Some b → Has b (tested dp k row.words arcs) × (decision_fault dp k i next row arcs b ≡ Some (Target k i b))
+following-fails dp k i next row arcs b e =
+    let is = following-missing 0 arcs b e in (
       listed-tested (filter (dp.allowed k row.words) (below (dp.choices k))) arcs b is.listed,
       elim is.missing as (λ _. decision_fault dp k i next row arcs b ≡ Some (Target k i b)) [ inl under ↦ absurd (omega arith) | inr none ↦ missing-fails dp k i next row arcs b none ],
     )
 
-pub walk-behind : (dp : Dp) (k i : ℕ) (next : List CoverRow) (row : CoverRow) (arcs : List CoverArc) (place d : ℕ) → IsWalked dp k i next row arcs place d → least_behind 0 arcs ≡ Some d
+pub walk-following : (dp : Dp) (k i : ℕ) (next : List CoverRow) (row : CoverRow) (arcs : List CoverArc) (place d : ℕ) → IsWalked dp k i next row arcs place d → least_after 0 arcs ≡ Some d
     → decisions_fault dp k i next row arcs (tested dp k row.words arcs) ≡ Some (Target k i d)
-walk-behind dp k i next row arcs place d w e =
-    let fails = behind-fails dp k i next row arcs d e in
+walk-following dp k i next row arcs place d w e =
+    let fails = following-fails dp k i next row arcs d e in
     least-first dp k i next row arcs (tested dp k row.words arcs) d (Target k i d) (rises-tested dp k row.words arcs) fails.0 w.fine fails.1
 
 -- ---- the end
@@ -288,19 +288,19 @@ above-all : (d e : ℕ) (arcs : List CoverArc) → d ≤ e → Each (λ (a : Cov
 above-all d e [] up all = tt
 above-all d e (a ∷ arcs) up all = let less : a.decision < d = all.0 in (omega arith, above-all d e arcs up all.1)
 
-not-left : (dp : Dp) (k i : ℕ) (next : List CoverRow) (row : CoverRow) (arcs : List CoverArc) (place d e : ℕ) → IsWalked dp k i next row arcs place d → d ≤ e → (o : Option CoverArc) → slice_get arcs place ≡ o → IsBefore e (lesser (least_behind 0 arcs) (decision_of o)) → lists e arcs ≡ false
+not-left : (dp : Dp) (k i : ℕ) (next : List CoverRow) (row : CoverRow) (arcs : List CoverArc) (place d e : ℕ) → IsWalked dp k i next row arcs place d → d ≤ e → (o : Option CoverArc) → slice_get arcs place ≡ o → IsBefore e (lesser (least_after 0 arcs) (decision_of o)) → lists e arcs ≡ false
 not-left dp k i next row arcs place d e w up None at under =
     let all : Each (λ (a : CoverArc). a.decision < d) arcs = subst (λ l. Each (λ (a : CoverArc). a.decision < d) l) (take_all place arcs (beyond arcs place at)) w.before in
     lists-none e arcs (above-all d e arcs up all)
 not-left dp k i next row arcs place d e w up (Some arc) at under =
     let split = split-at arcs place arc at in
-    let both = both-before e (least_behind 0 arcs) (Some arc.decision) under in
+    let both = both-before e (least_after 0 arcs) (Some arc.decision) under in
     let less : e < arc.decision = both.1 in
-    subst (λ l. lists e l ≡ false) (sym split) (unlisted 0 e (take place arcs) arc (drop (suc place) arcs) (omega arith) (above-all d e (take place arcs) up w.before) less (subst (λ l. IsBefore e (least_behind 0 l)) split both.0))
+    subst (λ l. lists e l ≡ false) (sym split) (unlisted 0 e (take place arcs) arc (drop (suc place) arcs) (omega arith) (above-all d e (take place arcs) up w.before) less (subst (λ l. IsBefore e (least_after 0 l)) split both.0))
 
 -- nothing is tested between the end of the choices and the least that is left
 nothing-between : (dp : Dp) (k i : ℕ) (next : List CoverRow) (row : CoverRow) (arcs : List CoverArc) (place d : ℕ) → dp.choices k ≡ d → IsWalked dp k i next row arcs place d → (o : Option CoverArc) → slice_get arcs place ≡ o
-    → (e : ℕ) → Has e (tested dp k row.words arcs) → IsBefore e (lesser (least_behind 0 arcs) (decision_of o)) → decision_fault dp k i next row arcs e ≡ None
+    → (e : ℕ) → Has e (tested dp k row.words arcs) → IsBefore e (lesser (least_after 0 arcs) (decision_of o)) → decision_fault dp k i next row arcs e ≡ None
 nothing-between dp k i next row arcs place d all w o at e has under =
     let split : (e < d) ⊎ (d ≤ e) = grind arith in
     elim split as (λ _. decision_fault dp k i next row arcs e ≡ None) [
@@ -323,11 +323,11 @@ decision-some None m e = absurd (let clash : None ≡ Some m = e in cc)
 decision-some (Some arc) m e = (arc, refl, same-Some arc.decision m e)
 
 -- the least that is left is tested and fails
-left-fails : (dp : Dp) (k i : ℕ) (next : List CoverRow) (row : CoverRow) (arcs : List CoverArc) (place d m : ℕ) → dp.choices k ≡ d → IsWalked dp k i next row arcs place d → lesser (least_behind 0 arcs) (decision_of (slice_get arcs place)) ≡ Some m
+left-fails : (dp : Dp) (k i : ℕ) (next : List CoverRow) (row : CoverRow) (arcs : List CoverArc) (place d m : ℕ) → dp.choices k ≡ d → IsWalked dp k i next row arcs place d → lesser (least_after 0 arcs) (decision_of (slice_get arcs place)) ≡ Some m
     → Has m (tested dp k row.words arcs) × (decision_fault dp k i next row arcs m ≡ Some (Target k i m))
 left-fails dp k i next row arcs place d m all w e =
-    elim (lesser-of (least_behind 0 arcs) (decision_of (slice_get arcs place)) m e) as (λ _. Has m (tested dp k row.words arcs) × (decision_fault dp k i next row arcs m ≡ Some (Target k i m))) [
-      | inl behind ↦ behind-fails dp k i next row arcs m behind
+    elim (lesser-of (least_after 0 arcs) (decision_of (slice_get arcs place)) m e) as (λ _. Has m (tested dp k row.words arcs) × (decision_fault dp k i next row arcs m ≡ Some (Target k i m))) [
+      | inl following ↦ following-fails dp k i next row arcs m following
       | inr here ↦ (
           let from = decision-some (slice_get arcs place) m here in
           let arc = from.0 in
@@ -340,7 +340,7 @@ left-fails dp k i next row arcs place d m all w e =
           ))
     ]
 
-pub walk-ends : (dp : Dp) (k i : ℕ) (next : List CoverRow) (row : CoverRow) (arcs : List CoverArc) (place d : ℕ) → dp.choices k ≡ d → IsWalked dp k i next row arcs place d → (o : Option ℕ) → lesser (least_behind 0 arcs) (decision_of (slice_get arcs place)) ≡ o
+pub walk-ends : (dp : Dp) (k i : ℕ) (next : List CoverRow) (row : CoverRow) (arcs : List CoverArc) (place d : ℕ) → dp.choices k ≡ d → IsWalked dp k i next row arcs place d → (o : Option ℕ) → lesser (least_after 0 arcs) (decision_of (slice_get arcs place)) ≡ o
     → decisions_fault dp k i next row arcs (tested dp k row.words arcs) ≡ rest_fault k i o
 walk-ends dp k i next row arcs place d all w None e =
     none-fails dp k i next row arcs (tested dp k row.words arcs) (λ x h. nothing-between dp k i next row arcs place d all w (slice_get arcs place) refl x h (subst (IsBefore x) (sym e) tt))

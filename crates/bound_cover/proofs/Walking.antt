@@ -7,14 +7,14 @@ use Rattle.bound_cover.specs.declared.cover.Why.{Why}
 use Rattle.bound_cover.specs.declared.cover.Why.TheVariants.{Target}
 use Rattle.bound_cover.specs.Covers.{CoverRow}
 use Rattle.bound_cover.specs.Tests.{tested, decision_fault}
-use Rattle.bound_cover.specs.Walking.{least_behind}
+use Rattle.bound_cover.specs.Walking.{least_after}
 
 -- the decision is less than the other, where there is one
 abbrev pub IsBefore : ℕ → Option ℕ → Type 0
 IsBefore d None = Unit {0}
 IsBefore d (Some e) = d < e
 
--- the failure at what is listed behind all decisions
+-- the failure at what is listed after all decisions
 abbrev pub rest_fault : ℕ → ℕ → Option ℕ → Option Why
 rest_fault k i None = None
 rest_fault k i (Some d) = Some (Target k i d)
@@ -29,5 +29,5 @@ pub record IsWalked (dp : Dp) (k i : ℕ) (next : List CoverRow) (row : CoverRow
   pub inside : place ≤ length arcs
   pub before : Each (λ (a : CoverArc). a.decision < d) (take place arcs)
   pub at : (arc : CoverArc) → slice_get arcs place ≡ Some arc → d ≤ arc.decision
-  pub behind : IsUpTo d (least_behind 0 arcs)
+  pub following : IsUpTo d (least_after 0 arcs)
   pub fine : (e : ℕ) → OneOf (λ x. x ≡ e) (tested dp k row.words arcs) → e < d → decision_fault dp k i next row arcs e ≡ None

@@ -1,5 +1,5 @@
 -- What a walk over a row's arcs may rest on: the first failure is that of the least decision that fails, and below the least
--- decision that stands behind one as great the arcs stand in order.
+-- decision that stands after one as great the arcs stand in order.
 use Rattle.std.proofs.Common.{◌≡◌, ℕ, ◌+◌, ◌<◌, ◌≤◌, nat_eq, nat_lt, nat_le, ℤ, true, false, not, cond, ◌&&◌, ◌||◌, List, [], ◌∷◌, ◌++◌, map, filter, Option, Some, None, ◌⊎◌, inl, inr, refl, sym, ◌∙◌, ap, subst, arith}
 use Rattle.dp_model.specs.Decisions.{below}
 use Rattle.dp_model.specs.Dp.{Dp}
@@ -9,7 +9,7 @@ use Rattle.bound_cover.specs.declared.cover.CoverArc.{CoverArc}
 use Rattle.bound_cover.specs.declared.cover.Why.{Why}
 use Rattle.bound_cover.specs.Covers.{CoverRow}
 use Rattle.bound_cover.specs.Tests.{first_of, lists, arc_for, put_in, with_listed, tested, decision_fault, decisions_fault}
-use Rattle.bound_cover.specs.Walking.{lesser, least_behind}
+use Rattle.bound_cover.specs.Walking.{lesser, least_after}
 use Rattle.bound_cover.proofs.Walking.{IsBefore}
 use Rattle.bound_cover.proofs.Rising.{Rises, rises-below, rises-filter}
 use Rattle.bound_cover.proofs.Faults.{Has-put_in}
@@ -77,7 +77,7 @@ listed-tested allowed [] d h = absurd h
 listed-tested allowed (arc ∷ arcs) d (inl same) = subst (λ n. Has n (put_in arc.decision (with_listed allowed arcs))) same (put_in-has arc.decision (with_listed allowed arcs))
 listed-tested allowed (arc ∷ arcs) d (inr later) = Has-put_in arc.decision d (with_listed allowed arcs) (listed-tested allowed arcs d later)
 
--- ---- the arcs below the least that stands behind one as great
+-- ---- the arcs below the least that stands after one as great
 
 pub before-lesser : (d m : ℕ) (o : Option ℕ) → IsBefore d (lesser (Some m) o) → (d < m) × IsBefore d o
 before-lesser d m None h = (h, tt)
@@ -88,12 +88,12 @@ before-lesser d m (Some n) h =
     ] refl h
 
 -- such a decision below `low` is not listed
-pub not-listed : (low d : ℕ) (arcs : List CoverArc) → d < low → IsBefore d (least_behind low arcs) → lists d arcs ≡ false
+pub not-listed : (low d : ℕ) (arcs : List CoverArc) → d < low → IsBefore d (least_after low arcs) → lists d arcs ≡ false
 not-listed low d [] less h = refl
 not-listed low d (arc ∷ arcs) less h =
-    elim (nat_lt arc.decision low) as (λ b. nat_lt arc.decision low ≡ b → IsBefore d (cond b (lesser (Some arc.decision) (least_behind low arcs)) (least_behind (arc.decision + 1) arcs)) → lists d (arc ∷ arcs) ≡ false) [
+    elim (nat_lt arc.decision low) as (λ b. nat_lt arc.decision low ≡ b → IsBefore d (cond b (lesser (Some arc.decision) (least_after low arcs)) (least_after (arc.decision + 1) arcs)) → lists d (arc ∷ arcs) ≡ false) [
       | true ↦ λ t g. (
-          let parts = before-lesser d arc.decision (least_behind low arcs) g in
+          let parts = before-lesser d arc.decision (least_after low arcs) g in
           let up : d < arc.decision = parts.0 in
           let other : nat_eq arc.decision d ≡ false = grind arith in
           rw other (not-listed low d arcs less parts.1))
@@ -104,19 +104,19 @@ not-listed low d (arc ∷ arcs) less h =
     ] refl h
 
 -- the arc at the place of a walk is that of its decision
-pub arc-at : (low d : ℕ) (before : List CoverArc) (arc : CoverArc) (after : List CoverArc) → low ≤ d → Each (λ (a : CoverArc). a.decision < d) before → arc.decision ≡ d → IsBefore d (least_behind low (before ++ arc ∷ after)) → arc_for d (before ++ arc ∷ after) ≡ Some arc
+pub arc-at : (low d : ℕ) (before : List CoverArc) (arc : CoverArc) (after : List CoverArc) → low ≤ d → Each (λ (a : CoverArc). a.decision < d) before → arc.decision ≡ d → IsBefore d (least_after low (before ++ arc ∷ after)) → arc_for d (before ++ arc ∷ after) ≡ Some arc
 arc-at low d [] arc after up all same h =
     let other : nat_lt arc.decision d ≡ false = grind arith in
     let here : nat_eq arc.decision d ≡ true = grind arith in
     let above : nat_lt arc.decision low ≡ false = grind arith in
-    let rest : IsBefore d (least_behind (arc.decision + 1) after) = subst (λ b. IsBefore d (cond b (lesser (Some arc.decision) (least_behind low after)) (least_behind (arc.decision + 1) after))) above h in
+    let rest : IsBefore d (least_after (arc.decision + 1) after) = subst (λ b. IsBefore d (cond b (lesser (Some arc.decision) (least_after low after)) (least_after (arc.decision + 1) after))) above h in
     let once : lists d after ≡ false = not-listed (arc.decision + 1) d after (omega arith) rest in
     rw (other, here, once) refl
 arc-at low d (a ∷ before) arc after up all same h =
     let less : a.decision < d = all.0 in
     let smaller : nat_lt a.decision d ≡ true = grind arith in
-    elim (nat_lt a.decision low) as (λ b. nat_lt a.decision low ≡ b → IsBefore d (cond b (lesser (Some a.decision) (least_behind low (before ++ arc ∷ after))) (least_behind (a.decision + 1) (before ++ arc ∷ after))) → arc_for d (a ∷ (before ++ arc ∷ after)) ≡ Some arc) [
-      | true ↦ λ t g. absurd (let parts = before-lesser d a.decision (least_behind low (before ++ arc ∷ after)) g in let more = parts.0 in omega arith)
+    elim (nat_lt a.decision low) as (λ b. nat_lt a.decision low ≡ b → IsBefore d (cond b (lesser (Some a.decision) (least_after low (before ++ arc ∷ after))) (least_after (a.decision + 1) (before ++ arc ∷ after))) → arc_for d (a ∷ (before ++ arc ∷ after)) ≡ Some arc) [
+      | true ↦ λ t g. absurd (let parts = before-lesser d a.decision (least_after low (before ++ arc ∷ after)) g in let more = parts.0 in omega arith)
       | false ↦ λ t g. rw smaller (arc-at (a.decision + 1) d before arc after (omega arith) all.1 same g)
     ] refl h
 
@@ -153,7 +153,7 @@ lesser-is m (Some n) b e =
       | false ↦ λ t f. (let same : n ≡ b = (let g : Some n ≡ Some b = f in cc) in let less : n < m = grind arith in inr (f, omega arith))
     ] refl e
 
--- an arc that is not smaller than a decision which is listed behind it hides that decision
+-- an arc that is not smaller than a decision which is listed after it hides that decision
 hidden : (b : ℕ) (arc : CoverArc) (arcs : List CoverArc) → b ≤ arc.decision → lists b arcs ≡ true → arc_for b (arc ∷ arcs) ≡ None
 hidden b arc arcs low there =
     let smaller : nat_lt arc.decision b ≡ false = grind arith in
@@ -162,23 +162,23 @@ hidden b arc arcs low there =
       | false ↦ λ e. e
     ] (rw smaller (elim (nat_eq arc.decision b) as (λ t. cond (t && not (lists b arcs)) (Some arc) None ≡ cond t (cond (not (lists b arcs)) (Some arc) None) None) [ true ↦ refl | false ↦ refl ]))
 
--- the least decision that stands behind one as great is listed, but not in order
-pub record IsBehind (low b : ℕ) (arcs : List CoverArc) : Type 0 where
+-- the least decision that stands after one as great is listed, but not in order
+pub record IsAfter (low b : ℕ) (arcs : List CoverArc) : Type 0 where
   pub listed : Has b (map (λ (a : CoverArc). a.decision) arcs)
   pub missing : (b < low) ⊎ (arc_for b arcs ≡ None)
 
-pub behind-missing : (low : ℕ) (arcs : List CoverArc) (b : ℕ) → least_behind low arcs ≡ Some b → IsBehind low b arcs
-behind-missing low [] b e = absurd (let clash : None ≡ Some b = e in cc)
-behind-missing low (arc ∷ arcs) b e =
-    elim (nat_lt arc.decision low) as (λ t. nat_lt arc.decision low ≡ t → cond t (lesser (Some arc.decision) (least_behind low arcs)) (least_behind (arc.decision + 1) arcs) ≡ Some b → IsBehind low b (arc ∷ arcs)) [
+pub following-missing : (low : ℕ) (arcs : List CoverArc) (b : ℕ) → least_after low arcs ≡ Some b → IsAfter low b arcs
+following-missing low [] b e = absurd (let clash : None ≡ Some b = e in cc)
+following-missing low (arc ∷ arcs) b e =
+    elim (nat_lt arc.decision low) as (λ t. nat_lt arc.decision low ≡ t → cond t (lesser (Some arc.decision) (least_after low arcs)) (least_after (arc.decision + 1) arcs) ≡ Some b → IsAfter low b (arc ∷ arcs)) [
       | true ↦ λ t f. (
           let under : arc.decision < low = grind arith in
-          elim (lesser-is arc.decision (least_behind low arcs) b f) as (λ _. IsBehind low b (arc ∷ arcs)) [
+          elim (lesser-is arc.decision (least_after low arcs) b f) as (λ _. IsAfter low b (arc ∷ arcs)) [
             | inl same ↦ record { listed = inl same; missing = inl (omega arith) }
-            | inr rest ↦ (let less = rest.1 in record { listed = inr (behind-missing low arcs b rest.0).listed; missing = inl (omega arith) })
+            | inr rest ↦ (let less = rest.1 in record { listed = inr (following-missing low arcs b rest.0).listed; missing = inl (omega arith) })
           ])
       | false ↦ λ t f. (
-          let more = behind-missing (arc.decision + 1) arcs b f in
+          let more = following-missing (arc.decision + 1) arcs b f in
           let there = listed-is b arcs more.listed in
           let split : (b ≤ arc.decision) ⊎ (arc.decision < b) = grind arith in
           record {

@@ -93,7 +93,7 @@ needed_layers best first d None = d.layers
 needed_layers best first d (Some depth) = cond (all_wait best (layer_of d.layers (depth - 1 - first))) (take (depth - first) d.layers) d.layers
 
 -- the cover's layer at depth j once the diagram of the waiting row stands in it: the row gets the arcs of the diagram's root,
--- and each further node gets a row behind those that are there
+-- and each further node gets a row after those that are there
 abbrev pub explored_layer : Dp → Option ℤ → Waiting → DdLayers → List (List CoverRow) → ℕ → List CoverRow
 explored_layer dp best q d rows j =
     cond (nat_lt j (length q.prefix)) (layer_of rows j)

@@ -22,7 +22,7 @@ pair_fault dp k here next = rows_fault dp k next 0 here
 abbrev pub last_rows_fault : Dp → List CoverRow → Option Why
 last_rows_fault dp here = rows_fault dp dp.vars [] 0 here
 
--- what can be tested once a further layer is there, behind so many; layers behind the model's last one are not looked at
+-- what can be tested once a further layer is there, after this many; layers after the model's last one are not looked at
 abbrev pub layer_fault : Dp → Option ℤ → ℕ → List CoverRow → List CoverRow → Option Why
 layer_fault dp claim count here next =
     cond (nat_eq count 0) (root_fault dp claim next) (cond (nat_lt (count - 1) dp.vars) (pair_fault dp (count - 1) here next) None)
@@ -50,6 +50,6 @@ abbrev pub all_taken : Dp → LayerTests → List (List CoverRow) → LayerTests
 all_taken dp t [] = t
 all_taken dp t (layer ∷ layers) = all_taken dp (taken dp t (layer ∷ [])) layers
 
--- the verdict behind the last layer
+-- the verdict after the last layer
 abbrev pub concluded : Dp → LayerTests → Verdict
 concluded dp t = verdict_of (cond (nat_eq t.count (dp.vars + 1)) (first_of t.why (last_rows_fault dp (layer_of t.here 0))) (Some Layers))

@@ -117,10 +117,10 @@ place_at starts rows layer row = option_and_then (place_from row (unwrap_or (sli
 abbrev pub count_at : List ℕ → ℕ → ℕ → ℕ
 count_at starts rows layer = unwrap_or (option_map (λ start. unwrap_or (slice_get starts (layer + 1)) rows - start) (slice_get starts layer)) 0
 
--- where a layer begins; one that is not there begins behind all rows
+-- where a layer begins; one that is not there begins after all rows
 abbrev pub start_at : List ℕ → ℕ → ℕ → ℕ
 start_at starts rows layer = unwrap_or (slice_get starts layer) rows
 
--- so many rows from a place on
+-- this many rows from a place on
 abbrev pub rows_from : List Head → List ℤ → List CoverArc → ℕ → ℕ → List CoverRow
 rows_from heads words arcs first count = slice_range (map (row_of words arcs) (spans heads)) first (first + count)

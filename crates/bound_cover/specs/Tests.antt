@@ -37,7 +37,7 @@ abbrev pub lists : ℕ → List CoverArc → Bool
 lists d [] = false
 lists d (arc ∷ arcs) = nat_eq arc.decision d || lists d arcs
 
--- the arc of a decision, where it is listed once and behind smaller ones alone
+-- the arc of a decision, where it is listed once and after smaller ones alone
 abbrev pub arc_for : ℕ → List CoverArc → Option CoverArc
 arc_for d [] = None
 arc_for d (arc ∷ arcs) = cond (nat_lt arc.decision d) (arc_for d arcs) (cond (nat_eq arc.decision d && not (lists d arcs)) (Some arc) None)

@@ -1,4 +1,4 @@
--- How the arcs of a row are read once: the least decision that stands behind one as great.
+-- How the arcs of a row are read once: the least decision that stands after one as great.
 use Rattle.std.specs.Prelude.{ℕ, ◌+◌, nat_eq, nat_lt, nat_le, Bool, cond, List, [], ◌∷◌, Option, Some, None}
 use Rattle.dp_model.specs.Dp.{Dp}
 use Rattle.bound_cover.specs.declared.cover.CoverArc.{CoverArc}
@@ -13,10 +13,10 @@ lesser None n = n
 lesser (Some m) None = Some m
 lesser (Some m) (Some n) = Some (cond (nat_le m n) m n)
 
--- the least decision below `low`, or behind one as great; `low` is above all decisions so far
-abbrev pub least_behind : ℕ → List CoverArc → Option ℕ
-least_behind low [] = None
-least_behind low (arc ∷ arcs) = cond (nat_lt arc.decision low) (lesser (Some arc.decision) (least_behind low arcs)) (least_behind (arc.decision + 1) arcs)
+-- the least decision below `low`, or after one as great; `low` is above all decisions so far
+abbrev pub least_after : ℕ → List CoverArc → Option ℕ
+least_after low [] = None
+least_after low (arc ∷ arcs) = cond (nat_lt arc.decision low) (lesser (Some arc.decision) (least_after low arcs)) (least_after (arc.decision + 1) arcs)
 
 -- the arc that is at hand, where it is that of the decision
 abbrev pub at_hand : ℕ → Option CoverArc → Option CoverArc

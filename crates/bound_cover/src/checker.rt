@@ -123,7 +123,7 @@ impl Checker {
     }
 
     /// Takes the next layer, the first one of a cover, and tests what can be tested then: the very first layer for the root, and
-    /// behind it the rows of the layer before. That layer is given back, so that its memory can be used again.
+    /// after it the rows of the layer before. That layer is given back, so that its memory can be used again.
     ///
     /// The checker was prepared for the model. It takes no memory.
     pub fn take_layer<M: DpModel>(
@@ -152,7 +152,7 @@ impl Checker {
         mem::replace(&mut tests.here, next)
     }
 
-    /// The verdict behind the last layer: that of `check` on all layers.
+    /// The verdict after the last layer: that of `check` on all layers.
     ///
     /// The checker was prepared for the model. It takes no memory.
     pub fn conclude<M: DpModel>(&mut self, model: &M, tests: &LayerTests) -> Verdict

@@ -6,7 +6,7 @@ ghost use Rattle.dp_model.specs.Dp.{Dp, IsAllowed};
 ghost use Rattle.dp_model.specs.Gaps.{IsStateOf};
 ghost use Rattle.dp_model.specs.Numbers.{add_some};
 ghost use Rattle.bound_cover.specs.Covers.{CoverRow};
-ghost use Rattle.bound_cover.specs.Walking.{least_behind, lesser, at_hand, decision_of, step_fault};
+ghost use Rattle.bound_cover.specs.Walking.{least_after, lesser, at_hand, decision_of, step_fault};
 ghost use Rattle.bound_cover.specs.Tests.{is_at_most, is_state_row, are_states, arc_fault, tested, decisions_fault, row_fault};
 ghost use Rattle.bound_cover.specs.Stored.{shown_row, to_row_fault};
 ghost use Rattle.bound_cover.specs.Verdicts.{rows_fault, layers_fault, has_root, root_test, checked_rows, worth, solution_fault, claim_of, verdict};
@@ -179,9 +179,9 @@ fn arc_fault<M: DpModel, N: Rows>(
     }
 }
 
-/// The least decision that stands behind one as great.
-fn least_behind(arcs: &[CoverArc]) -> Option<u32>
-    ensures { result ≡ least_behind 0 arcs.now }
+/// The least decision that stands after one as great.
+fn least_after(arcs: &[CoverArc]) -> Option<u32>
+    ensures { result ≡ least_after 0 arcs.now }
 {
     let mut least = None;
     let mut low = 0u64;
@@ -253,13 +253,13 @@ fn step_fault<M: DpModel, N: Rows>(
     }
 }
 
-/// The least decision that is listed behind all others, at the place or behind one as great.
-fn least_left(arcs: &[CoverArc], place: usize, behind: Option<u32>) -> Option<u32>
-    ensures { result ≡ lesser behind (decision_of (slice_get arcs.now place)) }
+/// The least decision that is listed after all others, at the place or after one as great.
+fn least_left(arcs: &[CoverArc], place: usize, following: Option<u32>) -> Option<u32>
+    ensures { result ≡ lesser following (decision_of (slice_get arcs.now place)) }
 {
     match arcs.get(place) {
-        Some(arc) => lesser(behind, arc.decision),
-        None => behind,
+        Some(arc) => lesser(following, arc.decision),
+        None => following,
     }
 }
 
@@ -312,10 +312,10 @@ fn first_decision_fault<M: DpModel, N: Rows>(
     ensures { result ≡ decisions_fault (M.meaning (M.numbers model.now)) k i (N.rows next.now) (shown_row row.entry) row.entry.arcs.now (tested (M.meaning (M.numbers model.now)) k row.entry.words.now row.entry.arcs.now) }
 {
     let layer = k as u32;
-    let behind = least_behind(row.arcs);
+    let following = least_after(row.arcs);
     let mut place = 0;
     'decisions: for decision in 0..model.choices(k) {
-        if behind == Some(decision) {
+        if following == Some(decision) {
             return Some(Why::Target {
                 layer,
                 row: i,
@@ -331,7 +331,7 @@ fn first_decision_fault<M: DpModel, N: Rows>(
             place += 1;
         }
     }
-    match least_left(row.arcs, place, behind) {
+    match least_left(row.arcs, place, following) {
         Some(decision) => Some(Why::Target {
             layer,
             row: i,

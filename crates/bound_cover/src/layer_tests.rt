@@ -9,7 +9,7 @@ use crate::cover::Why;
 use crate::storing::{Cover, RowRef};
 use dp_model::DpModel;
 
-/// What is kept behind some layers of a cover: what no feasible solution may exceed, how many they are, the last one, and the first
+/// What is kept after some layers of a cover: what no feasible solution may exceed, how many they are, the last one, and the first
 /// failure so far.
 #[derive(Debug, Drop)]
 pub struct LayerTests {
@@ -29,7 +29,7 @@ impl LayerTests {
     }
 }
 
-/// The rows behind the last layer.
+/// The rows after the last layer.
 pub(crate) struct NoRows;
 
 impl Rows for NoRows {
@@ -82,12 +82,12 @@ fn pair_fault<M: DpModel>(
     ensures { result ≡ pair_fault (M.meaning (M.numbers model.now)) k (layer_of here.now 0) (layer_of next.now 0) }
 {
     let rows = here.layer(0);
-    let behind = next.layer(0);
-    let known = are_states(model, k + 1, &behind, first_count(next));
-    rows_fault(model, &rows, first_count(here), &behind, k, step, known)
+    let following = next.layer(0);
+    let known = are_states(model, k + 1, &following, first_count(next));
+    rows_fault(model, &rows, first_count(here), &following, k, step, known)
 }
 
-/// The first failure of what can be tested once a further layer is there, behind so many. `root` and `step` are written over.
+/// The first failure of what can be tested once a further layer is there, after this many. `root` and `step` are written over.
 pub(crate) fn layer_fault<M: DpModel>(
     model: &M,
     claim: Option<i64>,

@@ -65,7 +65,7 @@ fn place_of(starts: &[usize], rows: usize, layer: usize, row: usize) -> Option<u
     }
 }
 
-/// The place among all rows where a layer begins; one that is not there begins behind all rows.
+/// The place among all rows where a layer begins; one that is not there begins after all rows.
 fn start_of(starts: &[usize], rows: usize, layer: usize) -> usize
     ensures { result ≡ start_at starts.now rows layer }
 {
@@ -90,7 +90,7 @@ fn count_of(starts: &[usize], rows: usize, layer: usize) -> usize
     if start <= end { end - start } else { 0 }
 }
 
-/// Where words or arcs end, where there is room for so many.
+/// Where words or arcs end, where there is room for this many.
 #[inline]
 fn end_of(len: usize) -> Result<u32, OutOfMemory>
     ensures { IfOk result (λ end. end ≡ len) }
@@ -101,7 +101,7 @@ fn end_of(len: usize) -> Result<u32, OutOfMemory>
     }
 }
 
-/// The head of a row with this bound, whose words and arcs end there, where a cover has room for so many.
+/// The head of a row with this bound, whose words and arcs end there, where a cover has room for this many.
 #[inline]
 fn head_of(
     bound: Option<i64>,
@@ -167,7 +167,7 @@ fn head_before(heads: &[Head], place: usize) -> Head
 /// The span of the head at a place.
 #[tactic(auto, using(crate::proofs::Spans::span_steps))]
 #[inline]
-fn span_behind(heads: &[Head], place: usize, head: Head) -> Span
+fn span_after(heads: &[Head], place: usize, head: Head) -> Span
     requires { slice_get heads.now place ≡ Some head }
     ensures { slice_get (spans heads.now) place ≡ Some result }
 {
@@ -185,7 +185,7 @@ fn span_at(heads: &[Head], place: usize) -> Option<Span>
 {
     match head_at(heads, place) {
         None => None,
-        Some(head) => Some(span_behind(heads, place, head)),
+        Some(head) => Some(span_after(heads, place, head)),
     }
 }
 

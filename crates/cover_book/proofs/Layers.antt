@@ -103,7 +103,7 @@ layer-none [] j far = refl
 layer-none (x ∷ rows) zero far = absurd (omega arith)
 layer-none (x ∷ rows) (suc j) far = layer-none rows j (omega arith)
 
--- empty layers behind the first one
+-- empty layers after the first one
 pub start-more : (top : List CoverRow) (n : ℕ) (rows new : List (List CoverRow)) (x : List CoverRow) → x ≡ [] → rows ≡ top ∷ replicate n [] → new ≡ rows ++ x ∷ [] → new ≡ top ∷ replicate (n + 1) []
 start-more top n rows new x none h is = is ∙ (ap₂ (λ (l : List (List CoverRow)) (y : List CoverRow). l ++ y ∷ []) h none ∙ ap (λ (l : List (List CoverRow)). top ∷ l) (replicate_more n []))
 

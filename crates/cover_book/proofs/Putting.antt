@@ -72,7 +72,7 @@ needed-not claim d (Some depth) j cut deep low =
       | false ↦ λ l. beyond d j deep l
     ] here
 
--- ---- nothing more is put behind
+-- ---- nothing more is put after
 
 append-none : {X : Type 0} (xs : List X) → xs ++ [] ≡ xs
 append-none [] = refl

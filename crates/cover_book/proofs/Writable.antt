@@ -21,6 +21,6 @@ writable-row [] row can h = tt
 writable-row (layer ∷ []) row can h = (Each-append (λ (r : CoverRow). IsWritable r.bound) layer (row ∷ []) h.0 (can, tt), tt)
 writable-row (layer ∷ next ∷ layers) row can h = (h.0, writable-row (next ∷ layers) row can h.1)
 
--- an empty layer comes behind the others
+-- an empty layer comes after the others
 pub writable-layer : (layers : List (List CoverRow)) → AreWritable layers → AreWritable (layers ++ [] ∷ [])
 writable-layer layers h = Each-append (λ (layer : List CoverRow). Each (λ (row : CoverRow). IsWritable row.bound) layer) layers ([] ∷ []) h (tt, tt)

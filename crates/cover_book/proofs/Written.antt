@@ -7,15 +7,15 @@ use Rattle.bound_cover.specs.Clamping.{lowest, highest, clamped, clamped_row, cl
 use Rattle.bound_cover.specs.Stored.{last_layer, with_row}
 
 -- a row comes to the last of some layers
-pub row-behind : (front : List (List CoverRow)) (layer : List CoverRow) (row : CoverRow) → with_row (front ++ layer ∷ []) row ≡ front ++ (layer ++ row ∷ []) ∷ []
-row-behind [] layer row = refl
-row-behind (x ∷ []) layer row = refl
-row-behind (x ∷ y ∷ front) layer row = ap (λ l. x ∷ l) (row-behind (y ∷ front) layer row)
+pub row-following : (front : List (List CoverRow)) (layer : List CoverRow) (row : CoverRow) → with_row (front ++ layer ∷ []) row ≡ front ++ (layer ++ row ∷ []) ∷ []
+row-following [] layer row = refl
+row-following (x ∷ []) layer row = refl
+row-following (x ∷ y ∷ front) layer row = ap (λ l. x ∷ l) (row-following (y ∷ front) layer row)
 
-pub last-behind : (front : List (List CoverRow)) (layer : List CoverRow) → last_layer (front ++ layer ∷ []) ≡ layer
-last-behind [] layer = refl
-last-behind (x ∷ []) layer = refl
-last-behind (x ∷ y ∷ front) layer = last-behind (y ∷ front) layer
+pub last-following : (front : List (List CoverRow)) (layer : List CoverRow) → last_layer (front ++ layer ∷ []) ≡ layer
+last-following [] layer = refl
+last-following (x ∷ []) layer = refl
+last-following (x ∷ y ∷ front) layer = last-following (y ∷ front) layer
 
 -- one row more
 pub rows-more : (dp : Dp) (k i : ℕ) (low high : ℤ) (front now new : List (List CoverRow)) (rows : List CoverRow) (row d : CoverRow) → i < length rows → row ≡ get_or rows i d → low ≡ lowest k → high ≡ highest dp k → now ≡ front ++ map (clamped_row dp k) (take i rows) ∷ []
@@ -24,12 +24,12 @@ rows-more dp k i low high front now new rows row d less is lo hi h n =
     let f = clamped_row dp k in
     let Row : ℤ → ℤ → CoverRow → CoverRow = λ a b r. record { bound = option_map (clamped a b) r.bound; words = r.words; arcs = r.arcs } in
     let its : Row low high row ≡ f (get_or rows i d) = ap (λ a. Row a high row) lo ∙ (ap (λ b. Row (lowest k) b row) hi ∙ ap f is) in
-    n ∙ (ap₂ with_row h its ∙ (row-behind front (map f (take i rows)) (f (get_or rows i d)) ∙ ap (λ l. front ++ l ∷ []) (sym (map_more f rows i d less))))
+    n ∙ (ap₂ with_row h its ∙ (row-following front (map f (take i rows)) (f (get_or rows i d)) ∙ ap (λ l. front ++ l ∷ []) (sym (map_more f rows i d less))))
 
 -- the last layer has few rows yet
 pub rows-few : (dp : Dp) (k i : ℕ) (front now : List (List CoverRow)) (rows : List CoverRow) → i ≤ length rows → now ≡ front ++ map (clamped_row dp k) (take i rows) ∷ [] → length (last_layer now) ≡ i
 rows-few dp k i front now rows less h =
-    ap (λ l. length (last_layer l)) h ∙ (ap (λ (l : List CoverRow). length l) (last-behind front (map (clamped_row dp k) (take i rows))) ∙ (length-map (take i rows) (clamped_row dp k) ∙ length-take-le i rows less))
+    ap (λ l. length (last_layer l)) h ∙ (ap (λ (l : List CoverRow). length l) (last-following front (map (clamped_row dp k) (take i rows))) ∙ (length-map (take i rows) (clamped_row dp k) ∙ length-take-le i rows less))
 
 pub rows-all : (dp : Dp) (k i : ℕ) (front now : List (List CoverRow)) (rows : List CoverRow) → length rows ≤ i → now ≡ front ++ map (clamped_row dp k) (take i rows) ∷ [] → now ≡ front ++ map (clamped_row dp k) rows ∷ []
 rows-all dp k i front now rows end h = h ∙ ap (λ l. front ++ map (clamped_row dp k) l ∷ []) (take_all i rows end)

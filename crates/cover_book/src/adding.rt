@@ -44,7 +44,7 @@ pub(crate) fn set_root_arcs<D: ShownDiagram>(
     Ok(())
 }
 
-/// Puts the rows of a layer's nodes behind those that are there.
+/// Puts the rows of a layer's nodes after those that are there.
 fn add_nodes<M: DpModel, D: ShownDiagram>(
     alloc: Global,
     model: &M,
@@ -67,7 +67,7 @@ fn add_nodes<M: DpModel, D: ShownDiagram>(
     Ok(())
 }
 
-/// Puts the rows of all nodes below the root's layer, down to the last needed layer, behind those that are there.
+/// Puts the rows of all nodes below the root's layer, down to the last needed layer, after those that are there.
 pub(crate) fn add_layers<M: DpModel, D: ShownDiagram>(
     alloc: Global,
     model: &M,

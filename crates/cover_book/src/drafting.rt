@@ -76,7 +76,7 @@ impl DraftLayer {
         &self.rows[place]
     }
 
-    /// Adds a row behind the others.
+    /// Adds a row after the others.
     pub(crate) fn push(&mut self, row: DraftRow) -> Result<(), OutOfMemory>
         ensures { OnOk result (self.new ≡ self.old ++ row ∷ []) }
     {

@@ -49,7 +49,7 @@ impl Gathered {
         last_count(&self.rows)
     }
 
-    /// Puts a row that waits behind those that do.
+    /// Puts a row that waits after those that do.
     pub(crate) fn wait(&mut self, place: u32, wait: Wait) -> Result<(), OutOfMemory> {
         self.waiting.reserve(1)?;
         self.waiting.push_reserved(Waiter { place, wait });

@@ -14,7 +14,7 @@
 //!
 //! `settle` does the same with the books of a search: a row that waits gets the diagram of its subproblem from a page, or goes to the row
 //! of the subproblem that dominated, kept out or replaced its own. Only what no page supplies is compiled. What it gives passes whatever the
-//! books hold, since that cover is tested too, and `explore_whole` stands behind it.
+//! books hold, since that cover is tested too, and `explore_whole` is called where all fail.
 //!
 //! ```
 //! let cover = settle(alloc, &model, claim_of(Some(120), 0), &books)?;

@@ -13,7 +13,7 @@ use dp_laws::DdArc;
 use dp_model::{DpModel, OutOfMemory};
 use std::alloc::Global;
 
-/// The number of a node's row where so many rows stand before those of its layer; none where it does not fit.
+/// The number of a node's row where this many rows stand before those of its layer; none where it does not fit.
 fn moved_place(before: u32, target: Option<u32>) -> Option<Option<u32>>
     ensures { IfSome result (λ place. place ≡ option_map (λ i. before + i) target) }
 {
@@ -37,7 +37,7 @@ fn moved(before: u32, arc: &DdArc) -> Result<CoverArc, OutOfMemory>
     })
 }
 
-/// The arcs of the row of a node, whose targets' rows have so many rows before them.
+/// The arcs of the row of a node, whose targets' rows have this many rows before them.
 pub(crate) fn arcs_of<D: ShownDiagram>(
     alloc: Global,
     diagram: &D,
@@ -156,7 +156,7 @@ pub(crate) fn has_arcs<M: DpModel, D: ShownDiagram>(
     depth < model.vars() && !(last && leads)
 }
 
-/// The row of a node, where so many rows stand before those of the next layer.
+/// The row of a node, where this many rows stand before those of the next layer.
 pub(crate) fn row_for<M: DpModel, D: ShownDiagram>(
     alloc: Global,
     model: &M,

@@ -18,7 +18,7 @@ pub(crate) struct Server {
     pub(crate) number: u32,
 }
 
-/// Rows of a layer that serve others: at most so many, but one at least, those with the least bounds, and of those with the greatest
+/// Rows of a layer that serve others: at most this many, but one at least, those with the least bounds, and of those with the greatest
 /// ranks.
 #[derive(Debug, Drop)]
 pub(crate) struct Servers {
@@ -27,7 +27,7 @@ pub(crate) struct Servers {
 }
 
 impl Servers {
-    /// No rows, of at most so many. It takes no memory.
+    /// No rows, of at most this many. It takes no memory.
     pub(crate) fn new(alloc: Global, most: usize) -> Servers
         ensures { result.list.items ≡ [] }
     {

@@ -61,7 +61,7 @@ struct Needed {
     place: u32,
 }
 
-/// Marks the targets of the last layer's rows among so many rows of the next one.
+/// Marks the targets of the last layer's rows among this many rows of the next one.
 fn marks_of(alloc: Global, above: &Cover, count: u32) -> Result<Vec<bool>, OutOfMemory> {
     let mut marks = vec![in alloc; false; count as usize]?;
     let rows = last_count(above) as usize;
@@ -512,7 +512,7 @@ fn count_at(layers: &[Gathered], depth: usize) -> u32 {
     }
 }
 
-/// Thins all layers behind the first one, whose kept rows these are, and writes each but the last one, whose kept rows it gives.
+/// Thins all layers after the first one, whose kept rows these are, and writes each but the last one, whose kept rows it gives.
 fn next_layers<M: DpModel>(
     alloc: Global,
     model: &M,

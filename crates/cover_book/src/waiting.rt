@@ -49,7 +49,7 @@ fn number_of(start: u32, node: usize) -> Result<usize, OutOfMemory>
     }
 }
 
-/// Puts a row behind the others.
+/// Puts a row after the others.
 fn push(waiting: &mut Vec<WaitingRow>, row: WaitingRow) -> Result<(), OutOfMemory>
     ensures { OnOk result (waiting.new.items ≡ waiting.old.items ++ row ∷ []) }
 {
@@ -74,7 +74,7 @@ pub(crate) fn prefix_at(waiting: &[WaitingRow], next: usize) -> &Sub
     &waiting[next].sub
 }
 
-/// Puts the rows of those nodes of a layer behind the others that lead above the claim. The layer's first row has the number
+/// Puts the rows of those nodes of a layer after the others that lead above the claim. The layer's first row has the number
 /// `start`.
 pub(crate) fn add_waiting<M: DpModel, D: ShownDiagram>(
     alloc: Global,

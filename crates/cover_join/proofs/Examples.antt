@@ -23,7 +23,7 @@ with_item = record {
 accepted : AreAccepted one_item 2 0 (without ∷ with_item ∷ [])
 accepted = (refl, (refl, tt))
 
--- the rows of the second part stand behind those of the first
+-- the rows of the second part stand after those of the first
 whole : joined one_item without (with_item ∷ []) ≡ record {
   best = Some (pos 4);
   assignment = 1 ∷ [];

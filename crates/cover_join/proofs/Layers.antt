@@ -10,7 +10,7 @@ use Rattle.bound_cover.specs.Verdicts.{first_layer, rows_fault, layers_fault, ha
 use Rattle.bound_cover.specs.Exploring.{layer_of}
 use Rattle.bound_cover.specs.DraftRows.{Passes}
 use Rattle.bound_cover.proofs.Faults.{first-none, unless-none, cond-none}
-use Rattle.bound_cover.proofs.Keeping.{append-cases, append-behind, map-cases, map-at}
+use Rattle.bound_cover.proofs.Keeping.{append-cases, append-following, map-cases, map-at}
 use Rattle.bound_cover.proofs.Placing.{layer-beyond}
 use Rattle.bound_cover.proofs.Sound.{accepted-none, checked-parts}
 use Rattle.parts.specs.Part.{part_program}
@@ -70,20 +70,20 @@ all-passed dp of i (p ∷ ps) h = (accepted-passed dp i of p h.0, all-passed dp 
 
 -- ---- where the rows of the next layer stand
 
--- a layer's rows stand behind others, and before others
+-- a layer's rows stand after others, and before others
 pub shifts-among : (n m : ℕ) (before layer after : List CoverRow) → length before ≡ n → Shifts n layer (before ++ (map (shifted_row m) layer ++ after))
 shifts-among n m before layer after long = λ t r at.
     let there : slice_get (map (shifted_row m) layer ++ after) t ≡ Some (shifted_row m r) = slice_get-append (map (shifted_row m) layer) after t (shifted_row m r) (map-at (shifted_row m) layer t r at) in
     record {
       row = shifted_row m r;
-      at = subst (λ n. slice_get (before ++ (map (shifted_row m) layer ++ after)) (n + t) ≡ Some (shifted_row m r)) long (append-behind before (map (shifted_row m) layer ++ after) t ∙ there);
+      at = subst (λ n. slice_get (before ++ (map (shifted_row m) layer ++ after)) (n + t) ≡ Some (shifted_row m r)) long (append-following before (map (shifted_row m) layer ++ after) t ∙ there);
       words = refl;
       bound = refl;
     }
 
 -- the rows of the parts so far, and of one more
-pub behind-more : (m n : ℕ) (before layer : List CoverRow) → length before ≡ n → length (before ++ map (shifted_row m) layer) ≡ n + length layer
-behind-more m n before layer long = length-append before (map (shifted_row m) layer) ∙ (ap (λ l. length before + l) (length-map layer (shifted_row m)) ∙ ap (λ x. x + length layer) long)
+pub following-more : (m n : ℕ) (before layer : List CoverRow) → length before ≡ n → length (before ++ map (shifted_row m) layer) ≡ n + length layer
+following-more m n before layer long = length-append before (map (shifted_row m) layer) ∙ (ap (λ l. length before + l) (length-map layer (shifted_row m)) ∙ ap (λ x. x + length layer) long)
 
 -- ---- the layers below the first
 
@@ -103,7 +103,7 @@ joined-passes dp of j index (p ∷ ps) all n m before long i r at =
           (passes-shifted dp index of j fine.0 n from.0 next (before ++ (map (shifted_row m) next ++ joined_layer (suc j + 1) m' ps)) (shifts-among n m before next (joined_layer (suc j + 1) m' ps) long) fault))
       | inr later ↦
           subst (λ l. Passes dp (suc j) l r) (append_assoc before (map (shifted_row m) next) (joined_layer (suc j + 1) m' ps))
-          (joined-passes dp of j (index + 1) ps all.1 (n + length next) m' (before ++ map (shifted_row m) next) (behind-more m n before next long) later.place r later.at)
+          (joined-passes dp of j (index + 1) ps all.1 (n + length next) m' (before ++ map (shifted_row m) next) (following-more m n before next long) later.place r later.at)
     ]
 
 -- ---- which layers there are

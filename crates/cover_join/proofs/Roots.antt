@@ -29,7 +29,7 @@ use Rattle.bound_cover.proofs.Rising.{Rises, rises-below, rises-filter, arc-for,
 use Rattle.parts.specs.Part.{part_program, allowed_in_part}
 use Rattle.cover_join.specs.Joined.{PartAnswer, is_root_row, root_row, root_arcs, have_arcs, target_for, shifted, shifted_row, joined_layer, joined_target, joined_arcs, joined_root}
 use Rattle.cover_join.proofs.Shifting.{arc-passes}
-use Rattle.cover_join.proofs.Layers.{Passed, AllPassed, shifts-among, behind-more}
+use Rattle.cover_join.proofs.Layers.{Passed, AllPassed, shifts-among, following-more}
 
 -- ---- tests
 
@@ -193,7 +193,7 @@ module _ (dp : Dp) (of : ℕ) (some : 0 < dp.vars) (best : Option ℤ) (o : Opti
       let next : List CoverRow = layer_of p.layers 1 in
       let m' : ℕ = m + length (layer_of p.layers 2) in
       subst (λ l. arc_fault dp 0 i l (joined_root dp best o) d (joined_target dp d place (n + length next) ps) ≡ None) (append_assoc before (map (shifted_row m) next) (joined_layer 1 m' ps))
-      (target-passes (index + 1) place ps all.1 low.1 (and_parts (is_some (root_arcs dp p)) (have_arcs dp ps) has).1 (omega arith) (omega arith) (n + length next) m' (before ++ map (shifted_row m) next) (behind-more m n before next long))
+      (target-passes (index + 1) place ps all.1 low.1 (and_parts (is_some (root_arcs dp p)) (have_arcs dp ps) has).1 (omega arith) (omega arith) (n + length next) m' (before ++ map (shifted_row m) next) (following-more m n before next long))
 
 -- ---- the row of the root
 

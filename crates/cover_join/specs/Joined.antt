@@ -46,7 +46,7 @@ abbrev pub target_for : ℕ → List CoverArc → Option ℕ
 target_for d [] = None
 target_for d (arc ∷ arcs) = cond (nat_eq arc.decision d) arc.target (target_for d arcs)
 
--- a target behind n further rows
+-- a target after n further rows
 abbrev pub shifted : ℕ → Option ℕ → Option ℕ
 shifted n target = option_map (λ t. n + t) target
 

@@ -60,7 +60,7 @@ page_of ticket d places fates = record {
   children = children_of d places fates;
 }
 
--- how many words a node counts for, where rows have so many cells: those of its row and two more, and two for each arc
+-- how many words a node counts for, where rows have this many cells: those of its row and two more, and two for each arc
 abbrev pub node_size : ℕ → NodeView → ℕ
 node_size words n = words + 2 + 2 * length n.arcs
 
@@ -68,7 +68,7 @@ node_size words n = words + 2 + 2 * length n.arcs
 abbrev pub size_of : ℕ → PageView → ℕ
 size_of words page = sum_by (λ (layer : List NodeView). sum_by (node_size words) layer) page.layers
 
--- the layers can be put into a book: there is one, the depth of the last one has 32 bits, and each row has so many cells
+-- the layers can be put into a book: there is one, the depth of the last one has 32 bits, and each row has this many cells
 pub record CanKeep (words : ℕ) (d : DdLayers) : Type 0 where
   pub some : 0 < length d.layers
   pub low : last_of d < 2 ^ 32

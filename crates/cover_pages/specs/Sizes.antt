@@ -19,7 +19,7 @@ abbrev pub nodes_of : List (List DdNode) → ℕ
 nodes_of [] = 0
 nodes_of (layer ∷ layers) = length layer + nodes_of layers
 
--- what a size leaves of so many words, and none where these are too few
+-- what a size leaves of this many words, and none where these are too few
 abbrev pub Leaves : ℕ → ℕ → Option ℕ → Type 0
 Leaves left size None = left < size
 Leaves left size (Some rest) = rest + size ≡ left

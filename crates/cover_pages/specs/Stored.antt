@@ -32,7 +32,7 @@ pub record PageBody : Type 0 where
 abbrev pub body_of : DdNode → NodeBody
 body_of n = record { value = n.value; suffix = n.suffix; exact = n.exact; arcs = map bare_arc n.arcs }
 
--- the layers of a diagram, where so many nodes stand above them
+-- the layers of a diagram, where this many nodes stand above them
 abbrev pub numbered : ℕ → List (List DdNode) → List LayerBody
 numbered start [] = []
 numbered start (layer ∷ layers) = record { start = start; nodes = map body_of layer } ∷ numbered (start + length layer) layers

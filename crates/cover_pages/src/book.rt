@@ -41,7 +41,7 @@ impl Model for CoverBook {
 }
 
 impl CoverBook {
-    /// A book without pages, for rows of so many cells and pages of so many words. It takes no memory.
+    /// A book without pages, for rows of this many cells and pages of this many words. It takes no memory.
     ///
     /// A row has at least one cell.
     pub fn new(alloc: Global, words: usize, limit: u64) -> CoverBook

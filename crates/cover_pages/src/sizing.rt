@@ -34,7 +34,7 @@ fn layer_leaves(words: usize, diagram: &Diagram, depth: usize, left: u64) -> Opt
     Some(rest)
 }
 
-/// What a diagram whose rows have so many cells leaves of so many words; none exactly where these are too few.
+/// What a diagram whose rows have this many cells leaves of this many words; none exactly where these are too few.
 pub(crate) fn diagram_leaves(words: usize, diagram: &Diagram, left: u64) -> Option<u64>
     requires { CanKeep words (layers_of diagram.now) }
     ensures { Leaves left (words_of words (layers_of diagram.now).layers) result }

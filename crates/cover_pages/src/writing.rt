@@ -10,7 +10,7 @@ ghost use Rattle.cover_pages.specs.Stored.{HasPutRows, rows_of};
 use relaxed_dd::Diagram;
 use row_region::{Region, RowId};
 
-/// Puts a row into the region, and its name behind the others.
+/// Puts a row into the region, and its name after the others.
 fn put_row(row: &[i64], region: &mut Region, ids: &mut Vec<RowId>)
     requires cells { length row.now ≡ region.old.words }
     requires spare { 0 < region.old.spare }

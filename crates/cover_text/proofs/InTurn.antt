@@ -18,7 +18,7 @@ use Rattle.cover_text.specs.Instances.{end_place, moved}
 use Rattle.cover_text.specs.RowLines.{bound_at, semicolon_at, state_word_at, ends_words, arcs_at, row_into}
 use Rattle.cover_text.specs.Sections.{numbered_at, layer_at, sections_at}
 use Rattle.cover_text.specs.Tested.{tested_at, tested_sections}
-use Rattle.cover_text.specs.Texts.{and_then, moved_by, cover_behind, OpenView, verdict_behind}
+use Rattle.cover_text.specs.Texts.{and_then, moved_by, cover_after, OpenView, verdict_after}
 
 -- ---- chains whose outcomes are made into others
 
@@ -54,19 +54,19 @@ made-until ends f from to same (suc n) a s =
 with-last : (layers : List (List CoverRow)) (rows : List CoverRow) (row : CoverRow) → layers ++ (rows ++ row ∷ []) ∷ [] ≡ with_row (layers ++ rows ∷ []) row
 with-last [] rows row = refl
 with-last (layer ∷ []) rows row = refl
-with-last (layer ∷ next ∷ layers) rows row = ap (λ behind. layer ∷ behind) (with-last (next ∷ layers) rows row)
+with-last (layer ∷ next ∷ layers) rows row = ap (λ following. layer ∷ following) (with-last (next ∷ layers) rows row)
 
--- a row behind those before it
-row_behind : ℕ → List CoverRow → TextState → Result (List CoverRow × TextState) CoverError
-row_behind most rows s =
+-- a row after those before it
+row_after : ℕ → List CoverRow → TextState → Result (List CoverRow × TextState) CoverError
+row_after most rows s =
     part_then (bound_at s) (λ bound t.
     passed_then (semicolon_at t) (λ u.
     part_then (until ends_words state_word_at most [] u) (λ words v.
     part_then (arcs_at most v) (λ arcs w.
     Ok (rows ++ record { bound = bound; words = words; arcs = arcs } ∷ [], w)))))
 
-row-same : (most : ℕ) (layers : List (List CoverRow)) (rows : List CoverRow) (s : TextState) → part_then (row_behind most rows s) (λ x t. Ok (layers ++ x ∷ [], t)) ≡ row_into most (layers ++ rows ∷ []) s
-unfolding row_into row_behind
+row-same : (most : ℕ) (layers : List (List CoverRow)) (rows : List CoverRow) (s : TextState) → part_then (row_after most rows s) (λ x t. Ok (layers ++ x ∷ [], t)) ≡ row_into most (layers ++ rows ∷ []) s
+unfolding row_into row_after
 row-same most layers rows s =
     then-same (bound_at s) _ _ _ (λ bound t.
     passed-same (semicolon_at t) _ _ _ (λ u.
@@ -80,7 +80,7 @@ rows_alone most number s =
     passed_then (fixed_at (codes "layer") s) (λ t.
     passed_then (fixed_at (decimal number) t) (λ u.
     part_then (small_at u) (λ rows v.
-    until never (row_behind most) rows [] v)))
+    until never (row_after most) rows [] v)))
 
 numbered-same : (most number : ℕ) (layers : List (List CoverRow)) (s : TextState) → part_then (rows_alone most number s) (λ x t. Ok (layers ++ x ∷ [], t)) ≡ numbered_at most number layers s
 unfolding numbered_at rows_alone
@@ -88,7 +88,7 @@ numbered-same most number layers s =
     passed-same (fixed_at (codes "layer") s) _ _ _ (λ t.
     passed-same (fixed_at (decimal number) t) _ _ _ (λ u.
     then-same (small_at u) _ _ _ (λ rows v.
-    made-until never (λ x. layers ++ x ∷ []) (row_behind most) (row_into most) (row-same most layers) rows [] v)))
+    made-until never (λ x. layers ++ x ∷ []) (row_after most) (row_into most) (row-same most layers) rows [] v)))
 
 -- ---- the sections
 
@@ -110,7 +110,7 @@ module _ (dp : Dp) (begin : LayerTests) (none : begin.count ≡ 0) (most : ℕ) 
       ∙ then-same alone _ _ _ (λ x t. refl)) in
       left ∙ sym right
 
--- behind the sections
+-- after the sections
 ended : {A B : Type 0} (finish : Result ⊤ TextError) (x : A) (y : B) (f : A → Result B CoverError) → f x ≡ Ok y → read_then finish (λ _. Ok y) ≡ and_then (read_then finish (λ _. Ok x)) f
 ended (Ok u) x y f same = sym same
 ended (Err e) x y f same = refl
@@ -144,7 +144,7 @@ moved-fails origin (Text e) read fails = rw fails refl
 moved-fails origin (Word p) read fails = rw fails refl
 
 -- the verdict on the sections of a text
-pub behind_tested : (dp : Dp) (o : OpenView) → verdict_behind dp o ≡ moved_by (end_place o.before) (tested_sections dp o.best o.within o.assignment o.behind)
-unfolding cover_behind
-behind_tested dp o =
-    moved-then (end_place o.before) (sections_at o.behind) (verdict dp o.best o.within o.assignment) ∙ ap (moved_by (end_place o.before)) (sym (sections-tested dp o.best o.within o.assignment o.behind))
+pub after_tested : (dp : Dp) (o : OpenView) → verdict_after dp o ≡ moved_by (end_place o.before) (tested_sections dp o.best o.within o.assignment o.following)
+unfolding cover_after
+after_tested dp o =
+    moved-then (end_place o.before) (sections_at o.following) (verdict dp o.best o.within o.assignment) ∙ ap (moved_by (end_place o.before)) (sym (sections-tested dp o.best o.within o.assignment o.following))

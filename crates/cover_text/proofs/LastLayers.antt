@@ -15,12 +15,12 @@ length_with_row [] row = refl
 length_with_row (layer ∷ []) row = refl
 length_with_row (layer ∷ next ∷ layers) row = ap suc (length_with_row (next ∷ layers) row)
 
-last_behind : (layer next : List CoverRow) (layers : List (List CoverRow)) (row : CoverRow) → last_layer (layer ∷ with_row (next ∷ layers) row) ≡ last_layer (with_row (next ∷ layers) row)
-last_behind layer next [] row = refl
-last_behind layer next (more ∷ layers) row = refl
+last_following : (layer next : List CoverRow) (layers : List (List CoverRow)) (row : CoverRow) → last_layer (layer ∷ with_row (next ∷ layers) row) ≡ last_layer (with_row (next ∷ layers) row)
+last_following layer next [] row = refl
+last_following layer next (more ∷ layers) row = refl
 
 -- it stands in the last layer
 pub last_grows : (layers : List (List CoverRow)) (row : CoverRow) → 0 < length layers → length (last_layer (with_row layers row)) ≡ length (last_layer layers) + 1
 last_grows [] row some = absurd (omega arith)
 last_grows (layer ∷ []) row some = length-append layer (row ∷ [])
-last_grows (layer ∷ next ∷ layers) row some = ap length (last_behind layer next layers row) ∙ last_grows (next ∷ layers) row (omega arith)
+last_grows (layer ∷ next ∷ layers) row some = ap length (last_following layer next layers row) ∙ last_grows (next ∷ layers) row (omega arith)

@@ -16,7 +16,7 @@ use Rattle.problem_names.specs.declared.ModelName.{ModelName}
 use Rattle.problem_names.specs.declared.part.PartNumber.{PartNumber}
 use Rattle.cover_text.proofs.EachName.{for_each}
 use Rattle.cover_text.specs.Heads.{ClaimView}
-use Rattle.cover_text.specs.Instances.{behind_lines, parted}
+use Rattle.cover_text.specs.Instances.{after_lines, parted}
 use Rattle.cover_text.specs.Outputs.{spaced, CountsView, printed_lines, proved_text, claim_lines, counts_lines, part_lines, cover_lines, printed_output, IsToldClaim, MayBeCounts}
 use Rattle.dp_model.specs.Distances.{IsDistance}
 use Rattle.cover_text.specs.Printed.{printed_cover}
@@ -25,35 +25,35 @@ use Rattle.cover_text.specs.Written.{IsWritten}
 use Rattle.cover_text.proofs.PrintedHeads.{word-small, distance-small, distance_text, claim_then, counts_then, part_told, head_then, head_height, MayBeClaim, head-read}
 use Rattle.cover_text.proofs.RoundTrip.{texts_read}
 
--- ---- the instance begins behind the last of the lines
+-- ---- the instance begins after the last of the lines
 
 solid-on : (b : ℕ) → is_solid b ≡ true → nat_eq b 10 ≡ false
 solid-on b solid = let no_blank : is_blank b ≡ false = not-true (is_blank b) solid in grind (arith, nat_tests)
 
 -- what has no blank stays on its line
-over-solid : (l : ℕ) (word rest : List ℕ) → list_all is_solid word ≡ true → behind_lines (suc l) (word ++ rest) ≡ behind_lines (suc l) rest
+over-solid : (l : ℕ) (word rest : List ℕ) → list_all is_solid word ≡ true → after_lines (suc l) (word ++ rest) ≡ after_lines (suc l) rest
 over-solid l [] rest h = refl
 over-solid l (b ∷ bs) rest h =
     let parts : (is_solid b ≡ true) × (list_all is_solid bs ≡ true) = and_parts _ _ h in
-    rw (solid-on b parts.0, behind_lines) (over-solid l bs rest parts.1)
+    rw (solid-on b parts.0, after_lines) (over-solid l bs rest parts.1)
 
-over-number : (l : ℕ) (z : ℤ) (rest : List ℕ) → nat_abs z < 2 ^ 64 → behind_lines (suc l) (decimal_of z ++ rest) ≡ behind_lines (suc l) rest
+over-number : (l : ℕ) (z : ℤ) (rest : List ℕ) → nat_abs z < 2 ^ 64 → after_lines (suc l) (decimal_of z ++ rest) ≡ after_lines (suc l) rest
 over-number l z rest small =
     let p = is_printed z small in
-    subst (λ w. behind_lines (suc l) (w ++ rest) ≡ behind_lines (suc l) rest) (sym p.printed_is) (over-solid l (p.first ∷ p.others) rest p.solid)
+    subst (λ w. after_lines (suc l) (w ++ rest) ≡ after_lines (suc l) rest) (sym p.printed_is) (over-solid l (p.first ∷ p.others) rest p.solid)
 
-over-spaced : (l : ℕ) (ds rest : List ℕ) → Each (λ d. d < 2 ^ 32) ds → behind_lines (suc l) (spaced ds ++ rest) ≡ behind_lines (suc l) rest
+over-spaced : (l : ℕ) (ds rest : List ℕ) → Each (λ d. d < 2 ^ 32) ds → after_lines (suc l) (spaced ds ++ rest) ≡ after_lines (suc l) rest
 over-spaced l [] rest held = refl
 over-spaced l (d ∷ ds) rest held =
     let few = held.0 in
-    ap (behind_lines (suc l)) (append_assoc (decimal_of (pos d)) (spaced ds) rest) ∙ (over-number l (pos d) (spaced ds ++ rest) (omega arith) ∙ over-spaced l ds rest held.1)
+    ap (after_lines (suc l)) (append_assoc (decimal_of (pos d)) (spaced ds) rest) ∙ (over-number l (pos d) (spaced ds ++ rest) (omega arith) ∙ over-spaced l ds rest held.1)
 
--- the first line of a report ends behind its distance
-over-distance : (l : ℕ) (told : Bool) (within : ℤ) (rest : List ℕ) → IsDistance within → behind_lines (suc l) (distance_text told within ++ (10 ∷ rest)) ≡ behind_lines l rest
+-- the first line of a report ends after its distance
+over-distance : (l : ℕ) (told : Bool) (within : ℤ) (rest : List ℕ) → IsDistance within → after_lines (suc l) (distance_text told within ++ (10 ∷ rest)) ≡ after_lines l rest
 over-distance l true within rest near = over-number l within (10 ∷ rest) (distance-small within near)
 over-distance l false within rest near = refl
 
--- so many lines more
+-- this many lines more
 abbrev claim_down : Option ℤ → ℕ → ℕ
 claim_down None l = suc l
 claim_down (Some value) l = suc (suc (suc l))
@@ -62,39 +62,39 @@ abbrev counts_down : Option CountsView → ℕ → ℕ
 counts_down None l = l
 counts_down (Some counts) l = suc (suc l)
 
-behind-claim : (most : ℕ) (best : Option ℤ) (within : ℤ) (ds more : List ℕ) (l : ℕ) → MayBeClaim most best within ds → behind_lines (claim_down best l) (claim_then best within ds more) ≡ behind_lines l more
-behind-claim most None within ds more l fits = refl
-behind-claim most (Some value) within ds more l fits =
+following-claim : (most : ℕ) (best : Option ℤ) (within : ℤ) (ds more : List ℕ) (l : ℕ) → MayBeClaim most best within ds → after_lines (claim_down best l) (claim_then best within ds more) ≡ after_lines l more
+following-claim most None within ds more l fits = refl
+following-claim most (Some value) within ds more l fits =
     let third = codes "assignment" ++ (spaced ds ++ (10 ∷ more)) in
     over-distance (suc (suc l)) (int_lt (pos 0) within) within (codes "value" ++ (32 ∷ (decimal_of value ++ (10 ∷ third)))) fits.1.0
     ∙ (over-number (suc l) value (10 ∷ third) (word-small value fits.0) ∙ over-spaced l ds (10 ∷ more) fits.1.1.0)
 
-behind-counts : (counts : Option CountsView) (more : List ℕ) (l : ℕ) → MayBeCounts counts → behind_lines (counts_down counts l) (counts_then counts more) ≡ behind_lines l more
-behind-counts None more l told = refl
-behind-counts (Some counts) more l told =
+following-counts : (counts : Option CountsView) (more : List ℕ) (l : ℕ) → MayBeCounts counts → after_lines (counts_down counts l) (counts_then counts more) ≡ after_lines l more
+following-counts None more l told = refl
+following-counts (Some counts) more l told =
     over-number (suc l) (pos counts.taken) (10 ∷ (codes "finished" ++ (32 ∷ (decimal counts.finished ++ (10 ∷ more))))) told.taken ∙ over-number l (pos counts.finished) (10 ∷ more) told.finished
 
 abbrev part_down : Option PartNumber → ℕ → ℕ
 part_down None l = l
 part_down (Some part) l = suc l
 
-behind-part : (part : Option PartNumber) (more : List ℕ) (l : ℕ) → MayBePart part → behind_lines (part_down part l) (part_told part more) ≡ behind_lines l more
-behind-part None more l meant = refl
-behind-part (Some part) more l meant =
+following-part : (part : Option PartNumber) (more : List ℕ) (l : ℕ) → MayBePart part → after_lines (part_down part l) (part_told part more) ≡ after_lines l more
+following-part None more l meant = refl
+following-part (Some part) more l meant =
     let below = meant.index in
     let few : part.of ≤ 1024 = meant.few in
     over-number l (pos part.index) (32 ∷ (decimal part.of ++ (10 ∷ more))) (omega arith) ∙ over-number l (pos part.of) (10 ∷ more) (omega arith)
 
-behind-cover : (model : ModelName) (part : Option PartNumber) (size : ℕ) (more : List ℕ) → MayBePart part → size < 2 ^ 32
-    → behind_lines (suc (part_down part (suc zero))) (codes "cover" ++ (32 ∷ (names.text_of model ++ (10 ∷ part_told part (codes "instance" ++ (32 ∷ (decimal size ++ (10 ∷ more)))))))) ≡ behind_lines zero more
-behind-cover model part size more meant few =
+following-cover : (model : ModelName) (part : Option PartNumber) (size : ℕ) (more : List ℕ) → MayBePart part → size < 2 ^ 32
+    → after_lines (suc (part_down part (suc zero))) (codes "cover" ++ (32 ∷ (names.text_of model ++ (10 ∷ part_told part (codes "instance" ++ (32 ∷ (decimal size ++ (10 ∷ more)))))))) ≡ after_lines zero more
+following-cover model part size more meant few =
     let last = codes "instance" ++ (32 ∷ (decimal size ++ (10 ∷ more))) in
     over-solid (part_down part (suc zero)) (names.text_of model) (10 ∷ part_told part last) (for_each (λ name. list_all is_solid (names.text_of name)) refl model)
-    ∙ (behind-part part last (suc zero) meant ∙ over-number zero (pos size) (10 ∷ more) (omega arith))
+    ∙ (following-part part last (suc zero) meant ∙ over-number zero (pos size) (10 ∷ more) (omega arith))
 
-behind-none : (more : List ℕ) → behind_lines zero more ≡ more
-behind-none [] = refl
-behind-none (b ∷ bs) = refl
+following-none : (more : List ℕ) → after_lines zero more ≡ more
+following-none [] = refl
+following-none (b ∷ bs) = refl
 
 heights : (claim : ClaimView) (counts : Option CountsView) (part : Option PartNumber) → (best : Option ℤ) → claim.best ≡ best → head_height claim counts part ≡ claim_down best (counts_down counts (suc (part_down part (suc zero))))
 heights claim None None None e = rw e refl
@@ -106,21 +106,21 @@ heights claim (Some counts) None (Some value) e = rw e refl
 heights claim None (Some part) (Some value) e = rw e refl
 heights claim (Some counts) (Some part) (Some value) e = rw e refl
 
-behind-head : (most : ℕ) (claim : ClaimView) (counts : Option CountsView) (model : ModelName) (part : Option PartNumber) (size : ℕ) (more : List ℕ) → MayBeClaim most claim.best claim.within claim.assignment → MayBeCounts counts → MayBePart part → size < 2 ^ 32
-    → behind_lines (head_height claim counts part) (head_then claim counts model part size more) ≡ more
-behind-head most claim counts model part size more fits told meant few =
+following-head : (most : ℕ) (claim : ClaimView) (counts : Option CountsView) (model : ModelName) (part : Option PartNumber) (size : ℕ) (more : List ℕ) → MayBeClaim most claim.best claim.within claim.assignment → MayBeCounts counts → MayBePart part → size < 2 ^ 32
+    → after_lines (head_height claim counts part) (head_then claim counts model part size more) ≡ more
+following-head most claim counts model part size more fits told meant few =
     let third = codes "cover" ++ (32 ∷ (names.text_of model ++ (10 ∷ part_told part (codes "instance" ++ (32 ∷ (decimal size ++ (10 ∷ more))))))) in
     let down = suc (part_down part (suc zero)) in
-    ap (λ l. behind_lines l (head_then claim counts model part size more)) (heights claim counts part claim.best refl)
-    ∙ (behind-claim most claim.best claim.within claim.assignment (counts_then counts third) (counts_down counts down) fits
-    ∙ (behind-counts counts third down told ∙ (behind-cover model part size more meant few ∙ behind-none more)))
+    ap (λ l. after_lines l (head_then claim counts model part size more)) (heights claim counts part claim.best refl)
+    ∙ (following-claim most claim.best claim.within claim.assignment (counts_then counts third) (counts_down counts down) fits
+    ∙ (following-counts counts third down told ∙ (following-cover model part size more meant few ∙ following-none more)))
 
--- it has its bytes, and the sections stand behind them
-parted-there : (bytes instance behind : List ℕ) (lines : ℕ) → behind_lines lines bytes ≡ instance ++ behind → parted bytes lines (length instance) ≡ Ok (instance, behind)
-parted-there bytes instance behind lines is =
-    let both = length-append instance behind in
-    let fits : nat_le (length instance) (length (instance ++ behind)) ≡ true = grind (arith, nat_tests) in
-    rw (is, fits, take-append_seam instance behind, drop-append_seam instance behind) refl
+-- it has its bytes, and the sections stand after them
+parted-there : (bytes instance following : List ℕ) (lines : ℕ) → after_lines lines bytes ≡ instance ++ following → parted bytes lines (length instance) ≡ Ok (instance, following)
+parted-there bytes instance following lines is =
+    let both = length-append instance following in
+    let fits : nat_le (length instance) (length (instance ++ following)) ≡ true = grind (arith, nat_tests) in
+    rw (is, fits, take-append_seam instance following, drop-append_seam instance following) refl
 
 -- ---- the whole output
 
@@ -144,7 +144,7 @@ claim-few (Some value) within ds more told =
     let five = length-append (spaced ds) (10 ∷ more) in
     (told.0, (told.1, (told.2, omega (arith, spaced-few ds))))
 
--- a line, and the others behind it
+-- a line, and the others after it
 lines-first : (text : List ℕ) (lines : List (List ℕ)) (rest : List ℕ) → printed_lines (text ∷ lines) ++ rest ≡ text ++ (10 ∷ (printed_lines lines ++ rest))
 lines-first text lines rest = append_assoc (text ++ 10 ∷ []) (printed_lines lines) rest ∙ append_assoc text (10 ∷ []) (printed_lines lines ++ rest)
 
@@ -197,6 +197,6 @@ outputs_read claim counts model part instance cover told counted meant few writt
     let fits : MayBeClaim (length bytes) claim.best claim.within claim.assignment =
     subst (λ (b : List ℕ). MayBeClaim (length b) claim.best claim.within claim.assignment) (sym is) (claim-few claim.best claim.within claim.assignment (counts_then counts third) told) in
     let head = head-read claim counts model part (length instance) sections bytes is fits counted meant few in
-    let behind = ap (behind_lines (head_height claim counts part)) is ∙ behind-head (length bytes) claim counts model part (length instance) sections fits counted meant few in
+    let following = ap (after_lines (head_height claim counts part)) is ∙ following-head (length bytes) claim counts model part (length instance) sections fits counted meant few in
     texts_read bytes instance (record { claim = claim; model = model; part = part; size = record { bytes = length instance; line = head_height claim counts part } }) cover written head
-    (parted-there bytes instance (printed_cover cover) (head_height claim counts part) behind)
+    (parted-there bytes instance (printed_cover cover) (head_height claim counts part) following)

@@ -26,7 +26,7 @@ use Rattle.cover_text.specs.Outputs.{spaced, CountsView, MayBeCounts}
 use Rattle.dp_model.specs.Distances.{IsDistance}
 use Rattle.cover_text.specs.Written.{IsWord}
 use Rattle.cover_text.proofs.EachName.{for_each}
-use Rattle.cover_text.proofs.PrintedTokens.{IsAt, IsAhead, Gives, BeginsBlank, behind_blank, PassesWord, passes_word, passes_fixed, passes_number, passes_small, until_reads, until_ended}
+use Rattle.cover_text.proofs.PrintedTokens.{IsAt, IsAhead, Gives, BeginsBlank, after_blank, PassesWord, passes_word, passes_fixed, passes_number, passes_small, until_reads, until_ended}
 
 -- ---- lines
 
@@ -53,7 +53,7 @@ skip-stops fresh place w bytes solid =
     let stays : is_passed Never false fresh w ≡ false = rw no_blank (and_right fresh false refl) in
     rw (stays, skip) refl
 
--- behind one blank a token begins
+-- after one blank a token begins
 one-blank : (line b w : ℕ) (bytes : List ℕ) (s : TextState) → is_blank b ≡ true → is_solid w ≡ true → IsOn line (b ∷ w ∷ bytes) s → (place_of s).line ≡ (place_after b s.place).line
 unfolding place_of at_token
 one-blank line b w bytes s blank solid on =
@@ -64,11 +64,11 @@ one-blank line b w bytes s blank solid on =
 
 -- a space stays on its line
 pub same-line : (line w : ℕ) (bytes : List ℕ) (s : TextState) → is_solid w ≡ true → IsOn line (32 ∷ w ∷ bytes) s → IsAheadOn line (w ∷ bytes) s
-same-line line w bytes s solid on = record { ahead = behind_blank 32 (w ∷ bytes) s refl on.at; line_is = one-blank line 32 w bytes s refl solid on ∙ on.line_is }
+same-line line w bytes s solid on = record { ahead = after_blank 32 (w ∷ bytes) s refl on.at; line_is = one-blank line 32 w bytes s refl solid on ∙ on.line_is }
 
 -- LF leads to the next one
 pub next-line : (line w : ℕ) (bytes : List ℕ) (s : TextState) → is_solid w ≡ true → IsOn line (10 ∷ w ∷ bytes) s → IsAheadOn (line + 1) (w ∷ bytes) s
-next-line line w bytes s solid on = record { ahead = behind_blank 10 (w ∷ bytes) s refl on.at; line_is = one-blank line 10 w bytes s refl solid on ∙ ap (λ l. l + 1) on.line_is }
+next-line line w bytes s solid on = record { ahead = after_blank 10 (w ∷ bytes) s refl on.at; line_is = one-blank line 10 w bytes s refl solid on ∙ ap (λ l. l + 1) on.line_is }
 
 -- the same before a number
 number-ahead : (line : ℕ) (z : ℤ) (more : List ℕ) (s : TextState) → nat_abs z < 2 ^ 64 → IsOn line (32 ∷ (decimal_of z ++ more)) s → IsAheadOn line (decimal_of z ++ more) s
@@ -130,7 +130,7 @@ pub distance-small : (z : ℤ) → IsDistance z → nat_abs z < 2 ^ 64
 distance-small (pos n) fits = let most = fits.most in omega (arith, ints)
 distance-small (negsuc n) fits = let least = fits.least in absurd (omega (arith, ints))
 
--- what stands behind the first word of the first line: the distance, where it is told
+-- what stands after the first word of the first line: the distance, where it is told
 abbrev pub distance_text : Bool → ℤ → List ℕ
 distance_text true within = 32 ∷ (codes "within" ++ (32 ∷ decimal_of within))
 distance_text false within = []
@@ -182,13 +182,13 @@ abbrev pub claim_height : Option ℤ → ℕ
 claim_height None = 1
 claim_height (Some value) = 3
 
--- the report and what stands behind it, each behind the one before
+-- the report and what stands after it, each after the one before
 abbrev pub claim_then : Option ℤ → ℤ → List ℕ → List ℕ → List ℕ
 claim_then None within ds more = codes "infeasible" ++ (10 ∷ more)
 claim_then (Some value) within ds more =
     codes "proved" ++ (distance_text (int_lt (pos 0) within) within ++ (10 ∷ (codes "value" ++ (32 ∷ (decimal_of value ++ (10 ∷ (codes "assignment" ++ (spaced ds ++ (10 ∷ more)))))))))
 
--- a claim that can be read, of at most so many decisions
+-- a claim that can be read, of at most this many decisions
 abbrev pub MayBeClaim : ℕ → Option ℤ → ℤ → List ℕ → Type 0
 MayBeClaim most None within ds = (within ≡ pos 0) × (ds ≡ [])
 MayBeClaim most (Some value) within ds = IsWord value × (IsDistance within × (Each (λ d. d < 2 ^ 32) ds × (length ds ≤ most)))
@@ -234,7 +234,7 @@ abbrev pub counts_height : Option CountsView → ℕ
 counts_height None = 0
 counts_height (Some counts) = 2
 
--- the counts where they are told, and what stands behind them
+-- the counts where they are told, and what stands after them
 abbrev pub counts_then : Option CountsView → List ℕ → List ℕ
 counts_then None more = more
 counts_then (Some counts) more = codes "taken" ++ (32 ∷ (decimal counts.taken ++ (10 ∷ (codes "finished" ++ (32 ∷ (decimal counts.finished ++ (10 ∷ more)))))))
@@ -242,7 +242,7 @@ counts_then (Some counts) more = codes "taken" ++ (32 ∷ (decimal counts.taken 
 cover-word : (line : ℕ) (more : List ℕ) (s : TextState) → IsOn line (10 ∷ (codes "cover" ++ (32 ∷ more))) s → PassesOn (line + 1) (codes "cover") (32 ∷ more) s
 cover-word line more s on = word-on (line + 1) 99 (codes "over") (32 ∷ more) s refl (lit< tt) (space-first more) (next-line line 99 (codes "over" ++ (32 ∷ more)) s refl on)
 
--- the counts and the word behind them are passed over
+-- the counts and the word after them are passed over
 record PassesCounts (line : ℕ) (more : List ℕ) (s : TextState) : Type 0 where
   state : TextState
   is : counts_at s ≡ Ok state
@@ -255,20 +255,20 @@ counts-on line None more s fits on =
     record { state = after_token s; is = rw word.word_is.value refl; there = word.on }
 counts-on line (Some counts) more s fits on =
     let cover = codes "cover" ++ (32 ∷ more) in
-    let behind = 32 ∷ (decimal counts.finished ++ (10 ∷ cover)) in
-    let second = codes "finished" ++ behind in
+    let following = 32 ∷ (decimal counts.finished ++ (10 ∷ cover)) in
+    let second = codes "finished" ++ following in
     let first = 32 ∷ (decimal counts.taken ++ (10 ∷ second)) in
     let one = word-on (line + 1) 116 (codes "aken") first s refl (lit< tt) (space-first (decimal counts.taken ++ (10 ∷ second))) (next-line line 116 (codes "aken" ++ first) s refl on) in
     let taken = count-on (line + 1) counts.taken second (after_token s) fits.taken one.on in
     let t = after_token (after_token s) in
-    let two = word-on (line + 1 + 1) 102 (codes "inished") behind t refl (lit< tt) (space-first (decimal counts.finished ++ (10 ∷ cover))) (next-line (line + 1) 102 (codes "inished" ++ behind) t refl taken.1) in
+    let two = word-on (line + 1 + 1) 102 (codes "inished") following t refl (lit< tt) (space-first (decimal counts.finished ++ (10 ∷ cover))) (next-line (line + 1) 102 (codes "inished" ++ following) t refl taken.1) in
     let finished = count-on (line + 1 + 1) counts.finished cover (after_token t) fits.finished two.on in
     let u = after_token (after_token t) in
     let last = cover-word (line + 1 + 1) more u finished.1 in
     let height : line + 1 + 1 + 1 ≡ line + (2 + 1) = omega arith in
     record {
       state = after_token u;
-      is = rw (one.word_is.value, taken.0, passes_fixed 102 (codes "inished") behind t two.word_is, finished.0, passes_fixed 99 (codes "over") (32 ∷ more) u last.word_is) refl;
+      is = rw (one.word_is.value, taken.0, passes_fixed 102 (codes "inished") following t two.word_is, finished.0, passes_fixed 99 (codes "over") (32 ∷ more) u last.word_is) refl;
       there = subst (λ l. IsOn l (32 ∷ more) (after_token u)) height last.on;
     }
 
@@ -343,7 +343,7 @@ part-on line (Some part) more s fits on =
       there = subst (λ l. IsOn l (32 ∷ more) (after_token read.state)) height last.on;
     }
 
--- all lines before the instance, and what stands behind them
+-- all lines before the instance, and what stands after them
 abbrev pub head_then : ClaimView → Option CountsView → ModelName → Option PartNumber → ℕ → List ℕ → List ℕ
 head_then claim counts model part size more =
     claim_then claim.best claim.within claim.assignment (counts_then counts (codes "cover" ++ (32 ∷ (names.text_of model ++ (10 ∷ part_told part (codes "instance" ++ (32 ∷ (decimal size ++ (10 ∷ more)))))))))
@@ -384,8 +384,8 @@ pub head-read : (claim : ClaimView) (counts : Option CountsView) (model : ModelN
     → head_at bytes ≡ Ok (record { claim = claim; model = model; part = part; size = record { bytes = size; line = head_height claim counts part } })
 unfolding head_at
 head-read claim counts model part size more bytes is fits told meant few =
-    let behind = decimal size ++ (10 ∷ more) in
-    let third = codes "instance" ++ (32 ∷ behind) in
+    let following = decimal size ++ (10 ∷ more) in
+    let third = codes "instance" ++ (32 ∷ following) in
     let second = names.text_of model ++ (10 ∷ part_told part third) in
     let first = counts_then counts (codes "cover" ++ (32 ∷ second)) in
     let s = text_start Never bytes in
@@ -394,5 +394,5 @@ head-read claim counts model part size more bytes is fits told meant few =
     let two = counts-on (claim_height claim.best) counts second one.state told one.there in
     let line = claim_height claim.best + (counts_height counts + 1) in
     let three = name-on line model (10 ∷ part_told part third) two.state (part-blank part third) two.there in
-    let four = part-on line part behind three.state meant three.there in
+    let four = part-on line part following three.state meant three.there in
     rw (one.is, two.is, three.is, four.is, size-on (line + (part_height part + 1)) size more four.state few four.there) refl

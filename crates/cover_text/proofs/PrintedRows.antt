@@ -16,7 +16,7 @@ use Rattle.cover_text.specs.Grammar.{until}
 use Rattle.cover_text.specs.Printed.{printed_bound, printed_number, printed_target, printed_arc, printed_arcs, printed_row}
 use Rattle.cover_text.specs.RowLines.{bound_at, semicolon_at, ends_words, state_word_at, target_at, arc_at, arcs_at, row_into}
 use Rattle.cover_text.specs.Written.{IsWord, IsTarget, IsArc, AreArcs, IsWrittenRow}
-use Rattle.cover_text.proofs.PrintedTokens.{IsAt, IsAhead, Gives, BeginsBlank, behind_blank, passes_word, stands-is, passes_fixed, passes_number, passes_small, until_reads, until_ended}
+use Rattle.cover_text.proofs.PrintedTokens.{IsAt, IsAhead, Gives, BeginsBlank, after_blank, passes_word, stands-is, passes_fixed, passes_number, passes_small, until_reads, until_ended}
 
 abs-below : (z : ℤ) (most : ℕ) → neg_ℤ (pos most) ≤ℤ z → z ≤ℤ pos most → nat_abs z ≤ most
 abs-below (pos n) most low high = omega (arith, ints)
@@ -68,7 +68,7 @@ line-ends more s at = ends_line_LF more s at.rest_is
 number-goes-on : (z : ℤ) (more : List ℕ) (s : TextState) → nat_abs z < 2 ^ 64 → IsAt (printed_number z ++ more) s → ends_line s ≡ false
 number-goes-on z more s small at = ends_line_number z more s small at.rest_is
 
--- a semicolon or an r behind a space does not end the line
+-- a semicolon or an r after a space does not end the line
 mark-goes-on : (b : ℕ) (more : List ℕ) (s : TextState) → (b ≡ 59) ⊎ (b ≡ 114) → IsAt (32 ∷ b ∷ more) s → ends_line s ≡ false
 unfolding ends_line
 mark-goes-on b more s (inl is) at = rw (at.rest_is, is) refl
@@ -89,7 +89,7 @@ bound-there (Some z) more s fits blank ahead =
 semicolon-there : (more : List ℕ) (s : TextState) → BeginsBlank more → IsAt (32 ∷ 59 ∷ more) s → (semicolon_at s ≡ Ok (after_token s)) × IsAt more (after_token s)
 unfolding semicolon_at
 semicolon-there more s blank at =
-    let word = passes_word 59 [] more s refl (lit< tt) blank (behind_blank 32 (59 ∷ more) s refl at) in
+    let word = passes_word 59 [] more s refl (lit< tt) blank (after_blank 32 (59 ∷ more) s refl at) in
     (rw (mark-goes-on 59 more s (inl refl) at, passes_fixed 59 [] more s word) refl, word.at)
 
 -- ---- the words
@@ -98,15 +98,15 @@ word-there : (z : ℤ) (more : List ℕ) (made : List ℤ) (s : TextState) → I
 unfolding state_word_at
 word-there z more made s fits blank at =
     let size : nat_abs z ≤ 2 ^ 63 = abs-below z (2 ^ 63) fits.low (let high = fits.high in omega (arith, ints)) in
-    let number = passes_number z (neg_ℤ (pos (2 ^ 63))) (pos (2 ^ 63 - 1)) more s (omega arith) fits.low fits.high blank (behind_blank 32 (decimal_of z ++ more) s refl at) in
+    let number = passes_number z (neg_ℤ (pos (2 ^ 63))) (pos (2 ^ 63 - 1)) more s (omega arith) fits.low fits.high blank (after_blank 32 (decimal_of z ++ more) s refl at) in
     (rw (number-goes-on z more s (omega arith) at, number.other (codes ";") semicolon-word) refl, record { state = after_token s; is = rw number.value refl; there = number.at })
 
 words-end : (arcs : Option (List CoverArc)) (more : List ℕ) (s : TextState) → IsAt (printed_arcs arcs ++ (10 ∷ more)) s → ends_words s ≡ true
 words-end None more s at = rw (line-ends more s at) refl
 words-end (Some arcs) more s at =
-    let behind = flat_map printed_arc arcs ++ (10 ∷ more) in
-    let word = passes_word 59 [] behind s refl (lit< tt) (arcs-blank arcs (10 ∷ more) (LF-blank more)) (behind_blank 32 (59 ∷ behind) s refl at) in
-    rw (mark-goes-on 59 behind s (inl refl) at, stands-is (codes ";") s word.token_is) refl
+    let following = flat_map printed_arc arcs ++ (10 ∷ more) in
+    let word = passes_word 59 [] following s refl (lit< tt) (arcs-blank arcs (10 ∷ more) (LF-blank more)) (after_blank 32 (59 ∷ following) s refl at) in
+    rw (mark-goes-on 59 following s (inl refl) at, stands-is (codes ";") s word.token_is) refl
 
 words-there : (most : ℕ) (zs : List ℤ) (arcs : Option (List CoverArc)) (more : List ℕ) (s : TextState) → length zs ≤ most → Each IsWord zs → IsAt (flat_map printed_number zs ++ (printed_arcs arcs ++ (10 ∷ more))) s
     → Gives (IsAt (printed_arcs arcs ++ (10 ∷ more))) (until ends_words state_word_at most [] s) zs
@@ -123,21 +123,21 @@ words-there most zs arcs more s few held at =
 target-there : (t : Option ℕ) (more : List ℕ) (s : TextState) → IsTarget t → BeginsBlank more → IsAt (printed_target t ++ more) s → Gives (IsAt more) (target_at s) t
 unfolding target_at
 target-there None more s fits blank at =
-    let word = passes_word 114 [] more s refl (lit< tt) blank (behind_blank 32 (114 ∷ more) s refl at) in
+    let word = passes_word 114 [] more s refl (lit< tt) blank (after_blank 32 (114 ∷ more) s refl at) in
     record { state = after_token s; is = rw (mark-goes-on 114 more s (inr refl) at, stands-is (codes "r") s word.token_is, word.value) refl; there = word.at }
 target-there (Some row) more s fits blank at =
-    let number = passes_small row more s fits blank (behind_blank 32 (decimal_of (pos row) ++ more) s refl at) in
+    let number = passes_small row more s fits blank (after_blank 32 (decimal_of (pos row) ++ more) s refl at) in
     record { state = after_token s; is = rw (number-goes-on (pos row) more s (omega arith) at, number.other (codes "r") rough-word, number.value) refl; there = number.at }
 
 arc-there : (arc : CoverArc) (more : List ℕ) (made : List CoverArc) (s : TextState) → IsArc arc → BeginsBlank more → IsAt (printed_arc arc ++ more) s → (ends_line s ≡ false) × Gives (IsAt more) (arc_at made s) (made ++ arc ∷ [])
 unfolding arc_at
 arc-there arc more made s fits blank at =
-    let behind = printed_target arc.target ++ more in
+    let following = printed_target arc.target ++ more in
     let few = fits.decision in
-    let here : IsAt (printed_number (pos arc.decision) ++ behind) s = subst (λ bytes. IsAt bytes s) (append_assoc (printed_number (pos arc.decision)) (printed_target arc.target) more) at in
-    let number = passes_small arc.decision behind s few (target-blank arc.target more) (behind_blank 32 (decimal_of (pos arc.decision) ++ behind) s refl here) in
+    let here : IsAt (printed_number (pos arc.decision) ++ following) s = subst (λ bytes. IsAt bytes s) (append_assoc (printed_number (pos arc.decision)) (printed_target arc.target) more) at in
+    let number = passes_small arc.decision following s few (target-blank arc.target more) (after_blank 32 (decimal_of (pos arc.decision) ++ following) s refl here) in
     let target = target-there arc.target more (after_token s) fits.target blank number.at in
-    (number-goes-on (pos arc.decision) behind s (omega arith) here, record { state = target.state; is = rw (number.value, target.is) refl; there = target.there })
+    (number-goes-on (pos arc.decision) following s (omega arith) here, record { state = target.state; is = rw (number.value, target.is) refl; there = target.there })
 
 -- the arcs of a row that has them are few
 abbrev pub AreFew : ℕ → Option (List CoverArc) → Type 0
@@ -149,21 +149,21 @@ unfolding arcs_at
 arcs-there most None more s few held at = record { state = s; is = rw (line-ends more s at) refl; there = at }
 arcs-there most (Some arcs) more s few held at =
     let tail = 10 ∷ more in
-    let behind = flat_map printed_arc arcs ++ tail in
-    let word = passes_word 59 [] behind s refl (lit< tt) (arcs-blank arcs tail (LF-blank more)) (behind_blank 32 (59 ∷ behind) s refl at) in
+    let following = flat_map printed_arc arcs ++ tail in
+    let word = passes_word 59 [] following s refl (lit< tt) (arcs-blank arcs tail (LF-blank more)) (after_blank 32 (59 ∷ following) s refl at) in
     let read = until_reads ends_line arc_at printed_arc (λ made arc. made ++ arc ∷ []) IsArc IsAt tail (most - length arcs)
     (λ arc rest made t fits here. arc-there arc (flat_map printed_arc rest ++ tail) made t fits (arcs-blank rest tail (LF-blank more)) here)
     (λ made t here. until_ended ends_line arc_at (most - length arcs) made t (line-ends more t here))
     most arcs [] (after_token s) (omega arith) held word.at in
     record {
       state = read.state;
-      is = rw (mark-goes-on 59 behind s (inl refl) at, passes_fixed 59 [] behind s word, read.is) (ap (λ made. Ok (Some made, read.state)) (fold_pushes arcs []));
+      is = rw (mark-goes-on 59 following s (inl refl) at, passes_fixed 59 [] following s word, read.is) (ap (λ made. Ok (Some made, read.state)) (fold_pushes arcs []));
       there = read.there;
     }
 
 -- ---- the row
 
--- a row has at most so many words and arcs
+-- a row has at most this many words and arcs
 pub record IsFew (most : ℕ) (row : CoverRow) : Type 0 where
   pub words : length row.words ≤ most
   pub arcs : AreFew most row.arcs

@@ -12,7 +12,7 @@ use Rattle.tokens.specs.Decimal.{decimal_of}
 use Rattle.tokens.specs.Printed.{IsBefore}
 use Rattle.tokens.specs.declared.comment.Comment.TheVariants.{Never}
 use Rattle.tokens.proofs.Digits.{is_printed, number_of-decimal_of}
-use Rattle.tokens.proofs.Printing.{before_behind, reads_number, reads_word}
+use Rattle.tokens.proofs.Printing.{before_after, reads_number, reads_word}
 use Rattle.dp_model.specs.Lists.{Each}
 use Rattle.problem_names.specs.ModelNames.{word_same}
 use Rattle.cover_text.specs.Grammar.{CoverError, until, stands, fixed_at, small_at}
@@ -40,8 +40,8 @@ pub record BeginsBlank (bytes : List ℕ) : Type 0 where
   pub is : bytes ≡ blank ∷ more
   pub is_blank : is_blank blank ≡ true
 
-pub behind_blank : (b : ℕ) (bytes : List ℕ) (s : TextState) → is_blank b ≡ true → IsAt (b ∷ bytes) s → IsAhead bytes s
-behind_blank b bytes s blank at = record { before = before_behind b bytes s blank at.rest_is; comment_is = at.comment_is }
+pub after_blank : (b : ℕ) (bytes : List ℕ) (s : TextState) → is_blank b ≡ true → IsAt (b ∷ bytes) s → IsAhead bytes s
+after_blank b bytes s blank at = record { before = before_after b bytes s blank at.rest_is; comment_is = at.comment_is }
 
 -- ---- words
 
@@ -132,14 +132,14 @@ passes_small n more s few blank ahead =
     let read = passes_number (pos n) (pos 0) (pos (2 ^ 32 - 1)) more s (omega arith) (omega (arith, ints)) (omega (arith, ints)) blank ahead in
     record { value = rw read.value refl; other = read.other; at = read.at }
 
--- ---- parts behind one another
+-- ---- parts after one another
 
 module _ {A X : Type 0} (ends : TextState → Bool) (step : A → TextState → Result (A × TextState) CoverError) (print : X → List ℕ) (add : A → X → A) (P : X → Type 0) (Here : List ℕ → TextState → Type 0) (tail : List ℕ) (extra : ℕ) where
   -- each printed part is read
   abbrev pub ReadsEach : Type 0
   ReadsEach = (x : X) (xs : List X) (made : A) (s : TextState) → P x → Here (print x ++ (flat_map print xs ++ tail)) s → (ends s ≡ false) × Gives (Here (flat_map print xs ++ tail)) (step made s) (add made x)
 
-  -- reading ends behind them
+  -- reading ends after them
   abbrev pub Stops : Type 0
   Stops = (made : A) (s : TextState) → Here tail s → until ends step extra made s ≡ Ok (made, s)
 

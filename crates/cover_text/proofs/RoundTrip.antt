@@ -16,11 +16,11 @@ use Rattle.cover_text.specs.Instances.{parted}
 use Rattle.cover_text.specs.Printed.{printed_row, printed_layer, printed_layers, printed_cover}
 use Rattle.cover_text.specs.RowLines.{row_into}
 use Rattle.cover_text.specs.Sections.{layer_at, numbered_at, sections_at}
-use Rattle.cover_text.specs.Texts.{opened, text_of, cover_behind}
+use Rattle.cover_text.specs.Texts.{opened, text_of, cover_after}
 use Rattle.cover_text.specs.Written.{IsWrittenRow, IsWrittenLayer, IsWritten}
 use Rattle.cover_text.proofs.PrintedLengths.{layers-few}
 use Rattle.cover_text.proofs.PrintedRows.{IsFew, row-there}
-use Rattle.cover_text.proofs.PrintedTokens.{IsAt, IsAhead, Gives, BeginsBlank, behind_blank, PassesWord, passes_word, stands-is, passes_fixed, passes_small, until_reads, until_ended, until_none}
+use Rattle.cover_text.proofs.PrintedTokens.{IsAt, IsAhead, Gives, BeginsBlank, after_blank, PassesWord, passes_word, stands-is, passes_fixed, passes_small, until_reads, until_ended, until_none}
 
 -- both facts of each
 each-both : {X : Type 0} (P Q : X → Type 0) (xs : List X) → Each P xs → Each Q xs → Each (λ x. P x × Q x) xs
@@ -48,7 +48,7 @@ rows-there most rows done tail s fits few ahead =
     let read = until_reads never (row_into most) printed_row with_row (λ row. IsWrittenRow row × IsFew most row) IsAhead tail 0
     (λ row rest made t held here.
     let line = row-there most row (flat_map printed_row rest ++ tail) made t held.0 held.1 here in
-    (refl, record { state = line.state; is = line.is; there = behind_blank 10 (flat_map printed_row rest ++ tail) line.state refl line.there }))
+    (refl, record { state = line.state; is = line.is; there = after_blank 10 (flat_map printed_row rest ++ tail) line.state refl line.there }))
     (λ made t here. until_none never (row_into most) made t)
     (length rows) rows (done ++ [] ∷ []) s (omega arith) (each-both IsWrittenRow (IsFew most) rows fits few) ahead in
     record { state = read.state; is = read.is ∙ ap (λ layers. Ok (layers, read.state)) (fold-rows done rows []); there = read.there }
@@ -72,11 +72,11 @@ layer-there most rows done tail s small fits few ahead =
     let here : IsAhead (codes "layer" ++ (32 ∷ number)) s = record { before = subst (λ bytes. IsBefore bytes s) (layer-parts (length done) rows tail) ahead.before; comment_is = ahead.comment_is } in
     let word = passes_word 108 (codes "ayer") (32 ∷ number) s refl (lit< tt) (record { blank = 32; more = number; is = refl; is_blank = refl }) here in
     let t = after_token s in
-    let place = number-word (length done) (32 ∷ count) t small (record { blank = 32; more = count; is = refl; is_blank = refl }) (behind_blank 32 number t refl word.at) in
+    let place = number-word (length done) (32 ∷ count) t small (record { blank = 32; more = count; is = refl; is_blank = refl }) (after_blank 32 number t refl word.at) in
     let u = after_token t in
-    let size = passes_small (length rows) (10 ∷ lines) u fits.few (record { blank = 10; more = lines; is = refl; is_blank = refl }) (behind_blank 32 count u refl place.1) in
+    let size = passes_small (length rows) (10 ∷ lines) u fits.few (record { blank = 10; more = lines; is = refl; is_blank = refl }) (after_blank 32 count u refl place.1) in
     let v = after_token u in
-    let read = rows-there most rows done tail v fits.rows few (behind_blank 10 lines v refl size.at) in
+    let read = rows-there most rows done tail v fits.rows few (after_blank 10 lines v refl size.at) in
     (ap (λ w. word_same w (codes "end")) word.token_is, record { state = read.state; is = rw (passes_fixed 108 (codes "ayer") (32 ∷ number) s word, place.0, size.value, read.is) refl; there = read.there })
 
 -- ---- all layers
@@ -126,12 +126,12 @@ sections_read cover held =
     let few_layers = held.few in
     let read = layers-there most cover [] most s (omega arith) (omega arith) held.layers few.0 (record { before = before_start Never bytes; comment_is = refl }) in
     let word = end-there read.state read.there in
-    let ends = finishes (after_token read.state) (behind_blank 10 [] (after_token read.state) refl word.at).before in
+    let ends = finishes (after_token read.state) (after_blank 10 [] (after_token read.state) refl word.at).before in
     rw (read.is, passes_fixed 101 (codes "nd") (10 ∷ []) read.state word, ends) refl
 
--- behind what is read before it it is the cover of the text
+-- after what is read before it it is the cover of the text
 pub texts_read : (bytes instance : List ℕ) (head : HeadView) (cover : List (List CoverRow)) → IsWritten cover
     → head_at bytes ≡ Ok head → parted bytes head.size.line head.size.bytes ≡ Ok (instance, printed_cover cover)
     → text_of bytes ≡ Ok (record { model = head.model; part = head.part; best = head.claim.best; within = head.claim.within; assignment = head.claim.assignment; instance = instance; cover = cover })
-unfolding text_of opened cover_behind
+unfolding text_of opened cover_after
 texts_read bytes instance head cover held head_is parts_are = rw (head_is, parts_are, sections_read cover held) refl

@@ -14,11 +14,11 @@ use Rattle.cover_text.specs.declared.cover_error.CoverError.TheVariants.{Text, W
 abbrev pub read_then : {A B : Type 0} → Result A TextError → (A → Result B CoverError) → Result B CoverError
 read_then read more = chain.read_then Text read more
 
--- a number from least to greatest, and what is read behind it
+-- a number from least to greatest, and what is read after it
 abbrev pub number_then : {B : Type 0} → ℤ → ℤ → TextState → (ℤ → TextState → Result B CoverError) → Result B CoverError
 number_then least greatest s more = chain.number_then Text least greatest s more
 
--- a word, and what is read behind it
+-- a word, and what is read after it
 abbrev pub word_then : {B : Type 0} → TextState → (List ℕ → TextState → Result B CoverError) → Result B CoverError
 word_then s more = chain.word_then Text s more
 

@@ -35,11 +35,11 @@ claim_in c = record { best = c.best; within = c.within; assignment = c.assignmen
 abbrev pub head_in : Head → HeadView
 head_in h = record { claim = claim_in h.claim; model = h.model; part = h.part; size = h.size }
 
--- a decision behind those before it
+-- a decision after those before it
 unfoldable pub decision_at : List ℕ → TextState → Result (List ℕ × TextState) CoverError
 decision_at decisions s = part_then (small_at s) (λ d t. Ok (decisions ++ d ∷ [], t))
 
--- the distance after the word within, or 0 where the word value stands in its place; and what stands behind value
+-- the distance after the word within, or 0 where the word value stands in its place; and what stands after value
 unfoldable pub distance_at : TextState → Result (ℤ × TextState) CoverError
 distance_at s = word_then s (λ w t.
     cond (word_same w (codes "value")) (Ok (pos 0, t))
@@ -49,7 +49,7 @@ distance_at s = word_then s (λ w t.
     Ok (within, v))))
     (Err (Word (place_of s)))))
 
--- what stands behind proved: perhaps a distance, the value, and an assignment of at most so many decisions, which ends with its line
+-- what stands after proved: perhaps a distance, the value, and an assignment of at most this many decisions, which ends with its line
 unfoldable pub solution_at : ℕ → TextState → Result (ClaimView × TextState) CoverError
 solution_at most s =
     part_then (distance_at s) (λ within t.
@@ -72,7 +72,7 @@ is_count w = not (nat_eq (length w) 0) && nat_le (length w) 20 && all_ascii_digi
 unfoldable pub count_at : TextState → Result TextState CoverError
 count_at s = word_then s (λ w t. cond (is_count w) (Ok t) (Err (Word (place_of s))))
 
--- the word cover, perhaps behind the lines taken and finished
+-- the word cover, perhaps after the lines taken and finished
 unfoldable pub counts_at : TextState → Result TextState CoverError
 counts_at s = word_then s (λ w t.
     cond (word_same w (codes "cover")) (Ok t)

@@ -17,7 +17,7 @@ use Rattle.cover_text.specs.Written.{IsWord, IsWritten}
 abbrev pub printed_lines : List (List ℕ) → List ℕ
 printed_lines lines = flat_map (λ text. text ++ 10 ∷ []) lines
 
--- each number behind a space
+-- each number after a space
 abbrev pub spaced : List ℕ → List ℕ
 spaced ds = flat_map (λ d. 32 ∷ decimal_of (pos d)) ds
 
@@ -53,7 +53,7 @@ cover_lines model part size = (codes "cover" ++ 32 ∷ names.text_of model) ∷ 
 abbrev pub printed_whole : ModelName → Option PartNumber → List ℕ → List (List CoverRow) → List ℕ
 printed_whole model part instance cover = printed_lines (cover_lines model part (length instance)) ++ (instance ++ printed_cover cover)
 
--- the report with its counts, and the cover behind it
+-- the report with its counts, and the cover after it
 abbrev pub printed_output : ClaimView → Option CountsView → ModelName → Option PartNumber → List ℕ → List (List CoverRow) → List ℕ
 printed_output claim counts model part instance cover =
     printed_lines (claim_lines claim.best claim.within claim.assignment) ++ (printed_lines (counts_lines counts) ++ printed_whole model part instance cover)

@@ -9,7 +9,7 @@ abbrev pub printed_bound : Option ℤ → List ℕ
 printed_bound None = codes "none"
 printed_bound (Some bound) = decimal_of bound
 
--- a number behind a space
+-- a number after a space
 abbrev pub printed_number : ℤ → List ℕ
 printed_number number = codes " " ++ decimal_of number
 

@@ -13,7 +13,7 @@ bound_at s =
     (word_then s (λ _ t. Ok (None, t)))
     (number_then (neg_ℤ (pos (2 ^ 62))) (pos (2 ^ 62)) s (λ z t. Ok (Some z, t)))
 
--- the semicolon behind the bound, on its line
+-- the semicolon after the bound, on its line
 unfoldable pub semicolon_at : TextState → Result TextState CoverError
 semicolon_at s = cond (ends_line s) (Err (early_end s)) (fixed_at (codes ";") s)
 
@@ -21,7 +21,7 @@ semicolon_at s = cond (ends_line s) (Err (early_end s)) (fixed_at (codes ";") s)
 abbrev pub ends_words : TextState → Bool
 ends_words s = ends_line s || stands (codes ";") s
 
--- a word of the state, any number of 64 bits, behind those before it
+-- a word of the state, any number of 64 bits, after those before it
 unfoldable pub state_word_at : List ℤ → TextState → Result (List ℤ × TextState) CoverError
 state_word_at words s = number_then (neg_ℤ (pos (2 ^ 63))) (pos (2 ^ 63 - 1)) s (λ z t. Ok (words ++ z ∷ [], t))
 
@@ -31,14 +31,14 @@ target_at s =
     cond (ends_line s) (Err (early_end s))
     (cond (stands (codes "r") s) (word_then s (λ _ t. Ok (None, t))) (part_then (small_at s) (λ row t. Ok (Some row, t))))
 
--- an arc behind those before it
+-- an arc after those before it
 unfoldable pub arc_at : List CoverArc → TextState → Result (List CoverArc × TextState) CoverError
 arc_at arcs s =
     part_then (small_at s) (λ d t.
     part_then (target_at t) (λ target u.
     Ok (arcs ++ record { decision = d; target = target } ∷ [], u)))
 
--- the arc part behind a second semicolon, where the line goes on
+-- the arc part after a second semicolon, where the line goes on
 unfoldable pub arcs_at : ℕ → TextState → Result (Option (List CoverArc) × TextState) CoverError
 arcs_at most s =
     cond (ends_line s) (Ok (None, s))
@@ -46,7 +46,7 @@ arcs_at most s =
     part_then (until ends_line arc_at most [] t) (λ arcs u.
     Ok (Some arcs, u))))
 
--- the line of a row that has at most so many words and arcs, put into the last layer
+-- the line of a row that has at most this many words and arcs, put into the last layer
 unfoldable pub row_into : ℕ → List (List CoverRow) → TextState → Result (List (List CoverRow) × TextState) CoverError
 row_into most layers s =
     part_then (bound_at s) (λ bound t.

@@ -1,4 +1,4 @@
--- The sections of a cover: layer K ROWS, then so many lines of rows; end.
+-- The sections of a cover: layer K ROWS, then this many lines of rows; end.
 use Rattle.std.specs.Prelude.{ℕ, List, [], ◌∷◌, ◌++◌, length, codes, decimal, Result, Ok}
 use Rattle.tokens.specs.Text.{TextState, text_start}
 use Rattle.tokens.specs.declared.comment.Comment.TheVariants.{Never}
@@ -6,7 +6,7 @@ use Rattle.bound_cover.specs.Covers.{CoverRow}
 use Rattle.cover_text.specs.Grammar.{CoverError, part_then, passed_then, end_then, until, never, stands, fixed_at, small_at}
 use Rattle.cover_text.specs.RowLines.{row_into}
 
--- the section of the layer of this number, behind the layers before it
+-- the section of the layer of this number, after the layers before it
 unfoldable pub numbered_at : ℕ → ℕ → List (List CoverRow) → TextState → Result (List (List CoverRow) × TextState) CoverError
 numbered_at most number layers s =
     passed_then (fixed_at (codes "layer") s) (λ t.
@@ -14,7 +14,7 @@ numbered_at most number layers s =
     part_then (small_at u) (λ rows v.
     until never (row_into most) rows (layers ++ [] ∷ []) v)))
 
--- the section of the next layer behind those before it
+-- the section of the next layer after those before it
 unfoldable pub layer_at : ℕ → List (List CoverRow) → TextState → Result (List (List CoverRow) × TextState) CoverError
 layer_at most layers s = numbered_at most (length layers) layers s
 

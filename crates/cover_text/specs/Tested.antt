@@ -13,7 +13,7 @@ use Rattle.cover_text.specs.Sections.{numbered_at}
 unfoldable pub tested_at : Dp → ℕ → LayerTests → TextState → Result (LayerTests × TextState) CoverError
 tested_at dp most tests s = part_then (numbered_at most tests.count [] s) (λ next t. Ok (taken dp tests next, t))
 
--- the verdict behind all sections of a text, then end and nothing else
+-- the verdict after all sections of a text, then end and nothing else
 unfoldable pub tested_sections : Dp → Option ℤ → ℤ → List ℕ → List ℕ → Result Verdict CoverError
 tested_sections dp best within x bytes =
     part_then (until (stands (codes "end")) (tested_at dp (length bytes)) (length bytes) (begun dp best within x) (text_start Never bytes)) (λ tests t.

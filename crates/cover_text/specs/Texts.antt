@@ -38,9 +38,9 @@ abbrev pub moved_by : {A : Type 0} → Place → Result A CoverError → Result 
 moved_by origin (Ok x) = Ok x
 moved_by origin (Err e) = Err (moved origin e)
 
--- the sections behind so many bytes
-unfoldable pub cover_behind : List ℕ → List ℕ → Result (List (List CoverRow)) CoverError
-cover_behind before behind = moved_by (end_place before) (sections_at behind)
+-- the sections after this many bytes
+unfoldable pub cover_after : List ℕ → List ℕ → Result (List (List CoverRow)) CoverError
+cover_after before following = moved_by (end_place before) (sections_at following)
 
 -- a text up to its sections, and the sections
 pub record OpenView : Type 0 where
@@ -51,27 +51,27 @@ pub record OpenView : Type 0 where
   pub assignment : List ℕ
   pub instance : List ℕ
   pub before : List ℕ
-  pub behind : List ℕ
+  pub following : List ℕ
 
 -- an open cover as its readers see it
 abbrev pub opened_in : OpenCover → OpenView
-opened_in o = record { model = o.model; part = o.part; best = o.best; within = o.within; assignment = o.assignment.items; instance = o.instance.now; before = o.before.now; behind = o.behind.now }
+opened_in o = record { model = o.model; part = o.part; best = o.best; within = o.within; assignment = o.assignment.items; instance = o.instance.now; before = o.before.now; following = o.following.now }
 
 -- what stands before the sections, or its first fault
 unfoldable pub opened : List ℕ → Result OpenView CoverError
 opened bytes =
     and_then (head_at bytes) (λ head.
     and_then (parted bytes head.size.line head.size.bytes) (λ parts.
-    Ok (record { model = head.model; part = head.part; best = head.claim.best; within = head.claim.within; assignment = head.claim.assignment; instance = parts.0; before = take (length bytes - length parts.1) bytes; behind = parts.1 })))
+    Ok (record { model = head.model; part = head.part; best = head.claim.best; within = head.claim.within; assignment = head.claim.assignment; instance = parts.0; before = take (length bytes - length parts.1) bytes; following = parts.1 })))
 
 -- what the text holds where its sections are this cover
 abbrev pub held_with : OpenView → List (List CoverRow) → CoverTextView
 held_with o cover = record { model = o.model; part = o.part; best = o.best; within = o.within; assignment = o.assignment; instance = o.instance; cover = cover }
 
 -- the verdict on the sections, or their first fault
-abbrev pub verdict_behind : Dp → OpenView → Result Verdict CoverError
-verdict_behind dp o = and_then (cover_behind o.before o.behind) (λ cover. Ok (verdict dp o.best o.within o.assignment cover))
+abbrev pub verdict_after : Dp → OpenView → Result Verdict CoverError
+verdict_after dp o = and_then (cover_after o.before o.following) (λ cover. Ok (verdict dp o.best o.within o.assignment cover))
 
 -- what a text holds, or its first fault
 unfoldable pub text_of : List ℕ → Result CoverTextView CoverError
-text_of bytes = and_then (opened bytes) (λ o. and_then (cover_behind o.before o.behind) (λ cover. Ok (held_with o cover)))
+text_of bytes = and_then (opened bytes) (λ o. and_then (cover_after o.before o.following) (λ cover. Ok (held_with o cover)))

@@ -60,7 +60,7 @@ pub record IsWritten (cover : List (List CoverRow)) : Type 0 where
 abbrev pub SectionsAreRead : Type 0
 SectionsAreRead = (cover : List (List CoverRow)) → IsWritten cover → sections_at (printed_cover cover) ≡ Ok cover
 
--- behind what is read before them they are the cover of the text
+-- after what is read before them they are the cover of the text
 abbrev pub TextsAreRead : Type 0
 TextsAreRead = (bytes instance : List ℕ) (head : HeadView) (cover : List (List CoverRow)) → IsWritten cover
     → head_at bytes ≡ Ok head → parted bytes head.size.line head.size.bytes ≡ Ok (instance, printed_cover cover)

@@ -7,7 +7,7 @@ use tokens::{Place, TextError};
 /// Why the text of a cover could not be read.
 #[derive(Clone, Copy, Debug, PartialEq, Eq)]
 pub enum CoverError {
-    /// A token that could not be read, or is left behind the cover.
+    /// A token that could not be read, or is left after the cover.
     Text(TextError),
     /// A word is none of those that may stand there, or a row's line ends too early and this is the next one.
     Word(Place),

@@ -37,6 +37,6 @@ pub struct OpenCover<'t> {
     pub instance: &'t [u8],
     /// All that stands before the sections.
     pub before: &'t [u8],
-    /// The sections and what stands behind them.
-    pub behind: &'t [u8],
+    /// The sections and what stands after them.
+    pub following: &'t [u8],
 }

@@ -41,7 +41,7 @@ pub(crate) struct Head {
     pub(crate) size: Size,
 }
 
-/// Reads a decision behind those before it.
+/// Reads a decision after those before it.
 #[tactic(auto, unfolding(crate::specs::Heads::decision_at), using(crate::proofs::Chains::part_fails))]
 fn read_decision(tokens: &mut Tokens<'_>, decisions: &mut Vec<u32>) -> Result<(), CoverError>
     ensures { Reads (λ _. (decisions.new.items, tokens.new)) result (decision_at decisions.old.items tokens.old) }
@@ -51,7 +51,7 @@ fn read_decision(tokens: &mut Tokens<'_>, decisions: &mut Vec<u32>) -> Result<()
     Ok(())
 }
 
-/// Reads the decisions up to the line's end, at most so many.
+/// Reads the decisions up to the line's end, at most this many.
 #[tactic(auto, using(crate::proofs::Chains::until_steps))]
 fn read_decisions(
     tokens: &mut Tokens<'_>,
@@ -69,7 +69,7 @@ fn read_decisions(
     Ok(())
 }
 
-/// Reads the distance, which is 0 where none stands here, and passes over the word `value` behind it.
+/// Reads the distance, which is 0 where none stands here, and passes over the word `value` after it.
 #[tactic(auto, unfolding(crate::specs::Heads::distance_at), using(crate::proofs::Chains::passed_fails))]
 fn read_distance(tokens: &mut Tokens<'_>) -> Result<i64, CoverError>
     ensures read { Reads (λ within. (within, tokens.new)) result (distance_at tokens.old) }
@@ -88,7 +88,7 @@ fn read_distance(tokens: &mut Tokens<'_>) -> Result<i64, CoverError>
     Ok(within)
 }
 
-/// Reads what stands behind the word `proved`.
+/// Reads what stands after the word `proved`.
 #[tactic(auto, unfolding(crate::specs::Heads::solution_at), using(crate::proofs::Chains::part_fails, crate::proofs::Chains::passed_fails))]
 fn read_solution(alloc: Global, tokens: &mut Tokens<'_>, most: usize) -> Result<Claim, CoverError>
     ensures read { Reads (λ c. (claim_in c, tokens.new)) result (solution_at most tokens.old) }

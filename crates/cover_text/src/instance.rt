@@ -1,21 +1,21 @@
-//! The bytes of the instance, and the places behind them.
+//! The bytes of the instance, and the places after them.
 
 ghost use Rattle.std.specs.Prelude.{◌≡◌, ◌<◌, ◌≤◌, ◌-◌, ◌^◌, length, Ok, Err, IfOk, MatchResult};
-ghost use Rattle.cover_text.specs.Instances.{behind_lines, end_place, parted, moved, moved_text, moved_place};
+ghost use Rattle.cover_text.specs.Instances.{after_lines, end_place, parted, moved, moved_text, moved_place};
 
 use crate::cover_error::CoverError;
 use tokens::{Place, TextError};
 
-/// A text in three parts: up to the instance, the instance, and what stands behind it.
+/// A text in three parts: up to the instance, the instance, and what stands after it.
 #[derive(Clone, Copy, Debug)]
 pub(crate) struct Parted<'a> {
     pub(crate) instance: &'a [u8],
-    pub(crate) behind: &'a [u8],
+    pub(crate) following: &'a [u8],
 }
 
-/// The bytes behind so many lines.
-fn behind_lines(bytes: &[u8], lines: u32) -> &[u8]
-    ensures part { result.now ≡ behind_lines lines bytes.now }
+/// The bytes after this many lines.
+fn after_lines(bytes: &[u8], lines: u32) -> &[u8]
+    ensures part { result.now ≡ after_lines lines bytes.now }
     ensures within { length result.now ≤ length bytes.now }
 {
     let mut rest = bytes;
@@ -32,7 +32,7 @@ fn behind_lines(bytes: &[u8], lines: u32) -> &[u8]
     rest
 }
 
-/// The place behind the last byte.
+/// The place after the last byte.
 pub(crate) fn end_place(bytes: &[u8]) -> Place
     requires { length bytes.now < 2 ^ 32 - 1 }
     ensures { result ≡ end_place bytes.now }
@@ -56,21 +56,21 @@ pub(crate) fn end_place(bytes: &[u8]) -> Place
     place
 }
 
-/// Parts a text behind so many lines, and so many bytes later.
+/// Parts a text after this many lines, and this many bytes later.
 pub(crate) fn part_text(bytes: &[u8], lines: u32, size: u32) -> Result<Parted<'_>, CoverError>
     requires { length bytes.now < 2 ^ 32 - 1 }
-    ensures parts { MatchResult result (λ p. parted bytes.now lines size ≡ Ok (p.instance.now, p.behind.now)) (λ e. parted bytes.now lines size ≡ Err e) }
-    ensures within { IfOk result (λ p. length p.behind.now ≤ length bytes.now) }
+    ensures parts { MatchResult result (λ p. parted bytes.now lines size ≡ Ok (p.instance.now, p.following.now)) (λ e. parted bytes.now lines size ≡ Err e) }
+    ensures within { IfOk result (λ p. length p.following.now ≤ length bytes.now) }
     ensures inside { IfOk result (λ p. length p.instance.now ≤ length bytes.now) }
 {
-    let rest = behind_lines(bytes, lines);
+    let rest = after_lines(bytes, lines);
     let size = size as usize;
     if size > rest.len() {
         return Err(CoverError::Text(TextError::EndOfText(end_place(bytes))));
     }
     Ok(Parted {
         instance: &rest[..size],
-        behind: &rest[size..],
+        following: &rest[size..],
     })
 }
 

@@ -14,7 +14,7 @@ use itoa::Buffer;
 use std::alloc::Global;
 use tokens::{Comment, Tokens};
 
-/// Reads so many rows into the last layer.
+/// Reads this many rows into the last layer.
 #[tactic(auto, using(crate::proofs::Chains::until_steps))]
 fn read_rows(
     tokens: &mut Tokens<'_>,
@@ -36,7 +36,7 @@ fn read_rows(
     Ok(())
 }
 
-/// Reads the section of the layer of this number, behind those before it.
+/// Reads the section of the layer of this number, after those before it.
 #[tactic(auto, unfolding(crate::specs::Sections::numbered_at), using(crate::proofs::LastLayers::last_added, crate::proofs::Chains::part_fails, crate::proofs::Chains::passed_fails))]
 pub(crate) fn read_numbered(
     tokens: &mut Tokens<'_>,
@@ -74,7 +74,7 @@ fn read_layer(
     read_numbered(tokens, most, cover.layers(), cover)
 }
 
-/// Reads the sections up to the word `end`, at most so many.
+/// Reads the sections up to the word `end`, at most this many.
 #[tactic(auto, using(crate::proofs::Chains::until_steps))]
 fn read_layers(
     tokens: &mut Tokens<'_>,

@@ -3,7 +3,7 @@
 //! It stands on `bound_cover` for covers in memory, on `tokens` for tokens and places, on `dp_model`, `problem_names` and `itoa`. A text is the lines
 //! of a report of `proved`, `proved within` with a distance, or `infeasible`, perhaps with the lines `taken` and `finished`; then
 //! `cover` with the problem's name, perhaps `part` with the number of a part and how many parts there are, `instance` with a number of
-//! bytes, so many bytes, a section for each layer, and `end`. A row is a line: a bound, the words of a state, and perhaps arcs.
+//! bytes, this many bytes, a section for each layer, and `end`. A row is a line: a bound, the words of a state, and perhaps arcs.
 //!
 //! Promised: `read_cover` answers exactly what the grammar gives, the first fault with its place included; `open_cover` does so up to the
 //! sections, and `OpenCover::check` gives the verdict on these, which are tested as they are read. `push_cover` appends

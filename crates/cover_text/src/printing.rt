@@ -23,7 +23,7 @@ fn push_bound(out: &mut Vec<u8>, bound: Option<i64>) -> Result<(), OutOfMemory>
 }
 
 /// Appends a space and a number.
-fn push_behind(out: &mut Vec<u8>, number: i64) -> Result<(), OutOfMemory>
+fn push_after(out: &mut Vec<u8>, number: i64) -> Result<(), OutOfMemory>
     ensures pushed { OnOk result (out.new.items ≡ out.old.items ++ printed_number number) }
     ensures fits { OnOk result (IsWord number) }
 {
@@ -37,7 +37,7 @@ fn push_words(out: &mut Vec<u8>, words: &[i64]) -> Result<(), OutOfMemory>
     ensures fits { OnOk result (Each IsWord words.now) }
 {
     for word in words {
-        push_behind(out, *word)?;
+        push_after(out, *word)?;
     }
     Ok(())
 }
@@ -49,7 +49,7 @@ fn push_target(out: &mut Vec<u8>, target: Option<u32>) -> Result<(), OutOfMemory
 {
     match target {
         None => push_text(out, " r"),
-        Some(row) => push_behind(out, i64::from(row)),
+        Some(row) => push_after(out, i64::from(row)),
     }
 }
 
@@ -58,7 +58,7 @@ fn push_arc(out: &mut Vec<u8>, arc: CoverArc) -> Result<(), OutOfMemory>
     ensures pushed { OnOk result (out.new.items ≡ out.old.items ++ printed_arc arc) }
     ensures fits { OnOk result (IsArc arc) }
 {
-    push_behind(out, i64::from(arc.decision))?;
+    push_after(out, i64::from(arc.decision))?;
     push_target(out, arc.target)
 }
 

@@ -6,7 +6,7 @@ ghost use Rattle.problem_names.specs.Parts.{MayBePart};
 ghost use Rattle.cover_text.specs.Grammar.{Reads};
 ghost use Rattle.cover_text.specs.Instances.{end_place, moved};
 ghost use Rattle.cover_text.specs.declared.cover_error.CoverError.TheVariants.{OutOfMemory};
-ghost use Rattle.cover_text.specs.Texts.{cover_behind, held_with, opened, opened_in, text_in, text_of, verdict_behind};
+ghost use Rattle.cover_text.specs.Texts.{cover_after, held_with, opened, opened_in, text_in, text_of, verdict_after};
 
 use crate::cover_error::CoverError;
 use crate::cover_text::{CoverText, OpenCover};
@@ -28,11 +28,11 @@ impl<'t> OpenCover<'t> {
     }
 
     /// Reads these sections, with the places of their faults in the text that they end.
-    #[tactic(auto, unfolding(crate::specs::Texts::cover_behind))]
+    #[tactic(auto, unfolding(crate::specs::Texts::cover_after))]
     pub(crate) fn read_part(&self, alloc: Global, sections: &[u8]) -> Result<Cover, CoverError>
         requires before { length self.now.before.now < 2 ^ 32 - 1 }
         requires sections { length sections.now < 2 ^ 32 - 1 }
-        ensures { Reads (λ c. c) result (cover_behind self.now.before.now sections.now) }
+        ensures { Reads (λ c. c) result (cover_after self.now.before.now sections.now) }
     {
         match read_sections(alloc, sections) {
             Ok(cover) => Ok(cover),
@@ -43,10 +43,10 @@ impl<'t> OpenCover<'t> {
     /// Reads the sections, with the places of their faults in the whole text.
     pub fn read(&self, alloc: Global) -> Result<Cover, CoverError>
         requires before { length self.now.before.now < 2 ^ 32 - 1 }
-        requires behind { length self.now.behind.now < 2 ^ 32 - 1 }
-        ensures { Reads (λ c. c) result (cover_behind self.now.before.now self.now.behind.now) }
+        requires following { length self.now.following.now < 2 ^ 32 - 1 }
+        ensures { Reads (λ c. c) result (cover_after self.now.before.now self.now.following.now) }
     {
-        self.read_part(alloc, self.behind)
+        self.read_part(alloc, self.following)
     }
 
     /// The text with these rows.
@@ -71,12 +71,12 @@ impl<'t> OpenCover<'t> {
 
     /// The verdict of `Checker::check` on the sections, which are tested as they are read, or the first fault as `read` gives it. Two
     /// layers at a time are in memory.
-    #[tactic(auto, using(crate::proofs::InTurn::behind_tested))]
+    #[tactic(auto, using(crate::proofs::InTurn::after_tested))]
     pub fn check<M: DpModel>(&self, alloc: Global, model: &M) -> Result<Verdict, CoverError>
         requires before { length self.now.before.now < 2 ^ 32 - 1 }
-        requires behind { length self.now.behind.now < 2 ^ 32 - 1 }
+        requires following { length self.now.following.now < 2 ^ 32 - 1 }
         requires distance { IsDistance self.now.within }
-        ensures { Reads (λ v. v) result (verdict_behind (M.meaning (M.numbers model.now)) (opened_in self.now)) }
+        ensures { Reads (λ v. v) result (verdict_after (M.meaning (M.numbers model.now)) (opened_in self.now)) }
     {
         let assignment = self.assignment.as_slice();
         match test_sections(
@@ -85,7 +85,7 @@ impl<'t> OpenCover<'t> {
             self.best,
             self.within,
             assignment,
-            self.behind,
+            self.following,
         ) {
             Ok(verdict) => Ok(verdict),
             Err(fault) => Err(self.placed(fault)),
@@ -104,7 +104,7 @@ pub fn open_cover(alloc: Global, bytes: &[u8]) -> Result<OpenCover<'_>, CoverErr
     ensures part { IfOk result (λ o. MayBePart o.part) }
     ensures inside { IfOk result (λ o. length o.instance.now ≤ length bytes.now) }
     ensures before { IfOk result (λ o. length o.before.now ≤ length bytes.now) }
-    ensures behind { IfOk result (λ o. length o.behind.now ≤ length bytes.now) }
+    ensures following { IfOk result (λ o. length o.following.now ≤ length bytes.now) }
 {
     let head = read_head(alloc, bytes)?;
     let parts = part_text(bytes, head.size.line, head.size.bytes)?;
@@ -116,8 +116,8 @@ pub fn open_cover(alloc: Global, bytes: &[u8]) -> Result<OpenCover<'_>, CoverErr
         within: claim.within,
         assignment: claim.assignment,
         instance: parts.instance,
-        before: &bytes[..bytes.len() - parts.behind.len()],
-        behind: parts.behind,
+        before: &bytes[..bytes.len() - parts.following.len()],
+        following: parts.following,
     })
 }
 

@@ -26,7 +26,7 @@ fn read_bound(tokens: &mut Tokens<'_>) -> Result<Option<i64>, CoverError>
     Ok(Some(bound))
 }
 
-/// Passes over the semicolon behind a bound, which stands on its line.
+/// Passes over the semicolon after a bound, which stands on its line.
 #[inline]
 #[tactic(auto, unfolding(crate::specs::RowLines::semicolon_at), using(crate::proofs::Passing::passing_steps))]
 fn pass_semicolon(tokens: &mut Tokens<'_>) -> Result<(), CoverError>
@@ -48,7 +48,7 @@ fn ends_words(tokens: &Tokens<'_>) -> bool
     tokens.at_line_end() || tokens.next_is(b";")
 }
 
-/// Reads a word of a state behind those before it.
+/// Reads a word of a state after those before it.
 #[tactic(auto, unfolding(crate::specs::RowLines::state_word_at))]
 fn read_word(tokens: &mut Tokens<'_>, rows: &mut CoverBuilder) -> Result<(), CoverError>
     ensures read { Reads (λ _. (rows.new.words, tokens.new)) result (state_word_at rows.old.words tokens.old) }
@@ -60,7 +60,7 @@ fn read_word(tokens: &mut Tokens<'_>, rows: &mut CoverBuilder) -> Result<(), Cov
     Ok(())
 }
 
-/// Reads the words of a row, at most so many.
+/// Reads the words of a row, at most this many.
 #[tactic(auto, using(crate::proofs::Chains::until_steps))]
 fn read_words(
     tokens: &mut Tokens<'_>,
@@ -95,7 +95,7 @@ fn read_target(tokens: &mut Tokens<'_>) -> Result<Option<u32>, CoverError>
     Ok(Some(row))
 }
 
-/// Reads an arc behind those before it.
+/// Reads an arc after those before it.
 #[tactic(auto, unfolding(crate::specs::RowLines::arc_at), using(crate::proofs::Chains::part_fails))]
 fn read_arc(tokens: &mut Tokens<'_>, rows: &mut CoverBuilder) -> Result<(), CoverError>
     ensures read { Reads (λ _. (rows.new.arcs, tokens.new)) result (arc_at rows.old.arcs tokens.old) }
@@ -108,7 +108,7 @@ fn read_arc(tokens: &mut Tokens<'_>, rows: &mut CoverBuilder) -> Result<(), Cove
     Ok(())
 }
 
-/// Reads the arcs up to the line's end, at most so many.
+/// Reads the arcs up to the line's end, at most this many.
 #[inline(never)]
 #[tactic(auto, using(crate::proofs::Chains::until_steps))]
 fn read_arc_list(

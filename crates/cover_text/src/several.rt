@@ -69,9 +69,9 @@ fn read_first(alloc: Global, bytes: &[u8]) -> Result<First<'_>, CoverError>
     ensures inside { IfOk result (λ f. vec_len f.text.instance ≤ length bytes.now) }
 {
     let open = open_cover(alloc, bytes)?;
-    let size = sections_size(open.behind);
-    let cover = open.read_part(alloc, &open.behind[..size])?;
-    let rest = &open.behind[size..];
+    let size = sections_size(open.following);
+    let cover = open.read_part(alloc, &open.following[..size])?;
+    let rest = &open.following[size..];
     let text = open.held(alloc, cover)?;
     Ok(First { text, rest })
 }
@@ -102,7 +102,7 @@ fn is_over(bytes: &[u8]) -> bool
     Tokens::new(bytes, Comment::Never).at_end()
 }
 
-/// Puts a text behind the others.
+/// Puts a text after the others.
 #[tactic(auto, using(crate::proofs::Ends::text_steps))]
 fn add_text(texts: &mut Vec<CoverText>, text: CoverText, most: usize) -> Result<(), CoverError>
     requires text { vec_len text.instance ≤ most }
@@ -115,7 +115,7 @@ fn add_text(texts: &mut Vec<CoverText>, text: CoverText, most: usize) -> Result<
     Ok(())
 }
 
-/// Reads further texts to the end of the input, and puts them behind the others.
+/// Reads further texts to the end of the input, and puts them after the others.
 #[tactic(auto, using(crate::proofs::Ends::from_steps))]
 fn read_more(
     alloc: Global,

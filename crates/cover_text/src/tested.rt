@@ -49,7 +49,7 @@ fn test_layer<M: DpModel>(
     Ok(checker.take_layer(model, tests, next))
 }
 
-/// Reads the sections up to the word `end`, at most so many, and tests each with the one before.
+/// Reads the sections up to the word `end`, at most this many, and tests each with the one before.
 #[tactic(auto, using(crate::proofs::Chains::until_steps))]
 fn test_layers<M: DpModel>(
     tokens: &mut Tokens<'_>,

@@ -72,7 +72,7 @@ pub trait Disk {
         ensures keeps { Keeps attached tells names found self.old self.new }
         ensures faults { Counts (is_err result) (faults self.old) (faults self.new) };
 
-    /// Fills `into` with the bytes that stand at `at` and behind it. The range lies in the file.
+    /// Fills `into` with the bytes that stand at `at` and after it. The range lies in the file.
     ///
     /// # Errors
     ///

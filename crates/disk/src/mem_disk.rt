@@ -86,7 +86,7 @@ impl MemDisk {
         }
     }
 
-    /// A disk that passes so many calls and then fails every one.
+    /// A disk that passes this many calls and then fails every one.
     pub fn fused(bytes: Vec<u8>, calls: u64) -> MemDisk
         ensures { result ≡ record {
           content = record { bytes = bytes.items; synced = bytes.items; pending = [] };

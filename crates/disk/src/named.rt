@@ -2,7 +2,7 @@ ghost use Rattle.std.specs.Prelude.{◌≡◌, ◌∷◌, ◌++◌, [], if◌the
 
 use std::alloc::AllocError;
 
-/// Adds a name behind the others. Where memory runs out, none is added.
+/// Adds a name after the others. Where memory runs out, none is added.
 pub(crate) fn add_name(names: &mut Vec<String>, name: &str) -> Result<(), AllocError>
     ensures { map string_bytes names.new.items ≡ (if is_ok result
         then map string_bytes names.old.items ++ name.now ∷ []

@@ -15,7 +15,7 @@ fn write_twice<D: Disk>(disk: &mut D) -> Result<(), DiskFailed> {
 }
 
 #[test]
-fn a_crash_leaves_what_was_synced_and_any_bytes_behind(rt: HostRuntime) -> Result<(), Fail> {
+fn a_crash_leaves_what_was_synced_and_any_bytes_after(rt: HostRuntime) -> Result<(), Fail> {
     let alloc = rt.alloc();
     for (fill, calls, seen, image) in [
         (b"".as_slice(), 9, b"acde".as_slice(), b"ab".as_slice()),

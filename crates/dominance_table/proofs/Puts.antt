@@ -71,7 +71,7 @@ put_step t words limit room len es cells e row is room_is h k =
     now ∙ subst (λ (v : TableView). record { entries = with_rows words es cells ++ with_row e row ∷ []; words = words; limit = limit; spare = room - len - 1 } ≡ cond (is_full t) t (record v { entries = v.entries ++ with_row e row ∷ []; spare = v.spare - 1 })) is
     (ap (λ b. cond b t (record { entries = with_rows words es cells ++ with_row e row ∷ []; words = words; limit = limit; spare = room - len - 1 })) (sym room_is))
 
--- there is room for so many entries more
+-- there is room for this many entries more
 pub reserved_room : (words limit room len capacity cells cells_capacity rows block now now_len now_capacity now_cells now_cells_capacity : ℕ) → HasRoom words limit room len capacity cells cells_capacity
     → now ≡ len + rows → block ≡ rows * words → now_len ≡ len → now_len + rows ≤ now_capacity → now_cells ≡ cells → now_cells + block ≤ now_cells_capacity
     → HasRoom words limit now now_len now_capacity now_cells now_cells_capacity

@@ -44,7 +44,7 @@ abbrev pub with_rows : ℕ → List Entry → List ℤ → List TableEntry
 with_rows words [] cells = []
 with_rows words (e ∷ es) cells = with_row e (take words cells) ∷ with_rows words es (drop words cells)
 
--- there is memory for so many entries and their rows, and no more entries than that or than the limit
+-- there is memory for this many entries and their rows, and no more entries than that or than the limit
 pub record HasRoom (words limit room len capacity cells cells_capacity : ℕ) : Type 0 where
   pub some : 1 ≤ words
   pub limited : len ≤ limit

@@ -79,7 +79,7 @@ pub record AreChained (heads : RunHeads) (runs : List Run) : Type 0 where
   pub none_next : (i : ℕ) → i < length runs → (next_at runs i < length runs) ⊎ (next_at runs i ≡ no_place)
   pub between : (i j : ℕ) → i < j → j < next_at runs i → j < length runs → fold_at runs j ≢ fold_at runs i
 
--- there is memory for so many runs and the heads of their folds
+-- there is memory for this many runs and the heads of their folds
 pub record HasRunHeadRoom (heads : RunHeads) (runs : List Run) (room capacity : ℕ) : Type 0 where
   pub placed : length runs ≤ room
   pub runs_room : room ≤ capacity

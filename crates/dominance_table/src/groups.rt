@@ -65,7 +65,7 @@ impl Groups {
         self.room
     }
 
-    /// Makes room for so many runs more. A refusal changes nothing.
+    /// Makes room for this many runs more. A refusal changes nothing.
     pub fn reserve(&mut self, count: usize) -> Result<(), OutOfMemory>
         ensures runs { self.new.runs ≡ self.old.runs }
         ensures ok { OnOk result (self.new.room ≡ max (length self.old.runs + count) self.old.room) }

@@ -47,7 +47,7 @@ impl Model for Table {
 }
 
 impl Table {
-    /// An empty table for rows of so many cells, with `spare` 0. It takes no memory.
+    /// An empty table for rows of this many cells, with `spare` 0. It takes no memory.
     pub fn new(alloc: Global, words: usize, limit: u32) -> Table
         requires { 1 ≤ words }
         ensures { result ≡ record { entries = []; words = words; limit = limit; spare = 0 } }
@@ -63,7 +63,7 @@ impl Table {
         }
     }
 
-    /// Makes `spare` at least `rows`: there is memory for so many entries more. A refusal changes nothing.
+    /// Makes `spare` at least `rows`: there is memory for this many entries more. A refusal changes nothing.
     pub fn reserve(&mut self, rows: usize) -> Result<(), OutOfMemory>
         ensures kept { self.new ≡ record self.old { spare = self.new.spare } }
         ensures spare { self.old.spare ≤ self.new.spare }

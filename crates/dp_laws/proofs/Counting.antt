@@ -129,7 +129,7 @@ shared g ds ((e ∷ t) ∷ cs) h =
 
 -- The counts.
 
--- the prefixes below the path c from the state, where so many layers are left there
+-- the prefixes below the path c from the state, where this many layers are left there
 count_at : Dp → ℕ → ℕ → List ℤ → List ℕ → ℕ
 count_at dp m k s c = paths_from dp (m - length c) (k + length c) (end_of dp k s c)
 

@@ -26,7 +26,7 @@ rows-first rows n words e = let s = suc-mul n words in omega arith
 pub rows-rest : (rows : List ℤ) (n words : ℕ) → length rows ≡ suc n * words → length (drop words rows) ≡ n * words
 rows-rest rows n words e = let s = suc-mul n words in let l = length-drop words rows in omega arith
 
--- the last child has its row and its decisions behind those of the others
+-- the last child has its row and its decisions after those of the others
 shown-last : (words : ℕ) (cs : List Child) (c : Child) (rows row : List ℤ) (paths path : List ℕ) → length rows ≡ length cs * words → length row ≡ words → length paths ≡ depths_of cs → length path ≡ c.depth
     → shown_subs words (cs ++ c ∷ []) (rows ++ row) (paths ++ path) ≡ shown_subs words cs rows paths ++ shown_sub c row path ∷ []
 shown-last words [] c rows row paths path a b d e =

@@ -6,9 +6,9 @@ use Rattle.exact_cutset.specs.Seen.{subproblems}
 use Rattle.exact_cutset.specs.Stored.{shown_sub, shown_subs, depths_of}
 use Rattle.exact_cutset.proofs.Kept.{map-last, rows-rest}
 
--- the child at the place, and those behind it
-pub behind : (cs : List Child) (i : ℕ) (d : Child) → i < length cs → drop i cs ≡ get_or cs i d ∷ drop (i + 1) cs
-behind cs i d less = let next : suc i ≡ i + 1 = omega arith in drop-cons cs i d less ∙ ap (λ n. get_or cs i d ∷ drop n cs) next
+-- the child at the place, and those after it
+pub following : (cs : List Child) (i : ℕ) (d : Child) → i < length cs → drop i cs ≡ get_or cs i d ∷ drop (i + 1) cs
+following cs i d less = let next : suc i ≡ i + 1 = omega arith in drop-cons cs i d less ∙ ap (λ n. get_or cs i d ∷ drop n cs) next
 
 -- what is left to be made
 pub record IsLeft (words : ℕ) (cs : List Child) (i : ℕ) (all : List Subproblem) (made : List SubView) (rows : List ℤ) (paths : List ℕ) : Type 0 where
@@ -23,7 +23,7 @@ pub one-made : (words : ℕ) (cs : List Child) (i : ℕ) (all : List Subproblem)
 one-made words cs i all made rows rest-rows paths rest-paths d new s row path less m a b r1 r2 p1 p2 is n =
     let x = get_or cs i d in
     let rest = drop (i + 1) cs in
-    let left = behind cs i d less in
+    let left = following cs i d less in
     let sub : s.subproblem ≡ shown_sub x (take words rows) (take x.depth paths) = is ∙ (ap (λ r. shown_sub x r path) r1 ∙ ap (λ p. shown_sub x (take words rows) p) p1) in
     let tail = shown_subs words rest (drop words rows) (drop x.depth paths) in
     let long : length rows ≡ suc (length rest) * words = a ∙ ap (λ l. length l * words) left in

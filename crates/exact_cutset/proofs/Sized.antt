@@ -21,7 +21,7 @@ shown-size words (c ∷ cs) rows paths e =
     let sum = sum_by-cons (λ (x : Subproblem). 20 + 4 * length x.decisions) (shown_sub c (take words rows) (take c.depth paths)) rest in
     omega arith
 
--- so many decisions are few
+-- this many decisions are few
 pub few-decisions : (vars : ℕ) (cs : List Child) (paths : List ℕ) → vars ≤ 1024 → length cs ≤ 2 ^ 34 → Each (λ (c : Child). c.depth ≤ vars) cs → length paths ≡ depths_of cs → length paths ≤ 2 ^ 44
 few-decisions vars cs paths low few deep e =
     let most = depths-most vars cs deep in

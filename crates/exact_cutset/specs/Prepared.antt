@@ -8,7 +8,7 @@ use Rattle.layer_build.specs.declared.workspace.PrepareError.{PrepareError}
 use Rattle.layer_build.specs.declared.workspace.PrepareError.TheVariants.{Width, OutOfMemory}
 use Rattle.exact_cutset.specs.Seen.{ChildrenView}
 
--- so many nodes are enough for a layer of the width, and for one below a single node
+-- this many nodes are enough for a layer of the width, and for one below a single node
 pub record AreEnoughChildren (dp : Dp) (w n wide : ℕ) : Type 0 where
   pub width : w ≤ wide
   pub choices : (k : ℕ) → k < n → dp.choices k ≤ wide

@@ -35,7 +35,7 @@ abbrev pub IsExactNode : Option DdNode → Type 0
 IsExactNode None = ⊥
 IsExactNode (Some node) = node.exact ≡ true
 
--- the node is there and exact, and its row has so many cells
+-- the node is there and exact, and its row has this many cells
 abbrev pub MayKeep : ℕ → Option DdNode → Type 0
 MayKeep words None = ⊥
 MayKeep words (Some node) = (node.exact ≡ true) × (length node.row ≡ words)

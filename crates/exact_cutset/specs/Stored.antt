@@ -28,7 +28,7 @@ depths_of (c ∷ cs) = c.depth + depths_of cs
 abbrev pub shown_solution : Option ℤ → List ℕ → Option Solution
 shown_solution value decisions = option_map (λ v. record { decisions = decisions; value = v }) value
 
--- there is room for so many children, and those that are there have their rows and their decisions
+-- there is room for this many children, and those that are there have their rows and their decisions
 pub record HasChildren (words vars room : ℕ) (places : List Child) (places_room : ℕ) (rows : List ℤ) (rows_room : ℕ) (paths : List ℕ) (paths_room : ℕ) (decisions path : List ℕ) : Type 0 where
   pub few : length places ≤ room
   pub room_most : room ≤ 2 ^ 34

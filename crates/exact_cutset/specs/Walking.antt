@@ -22,7 +22,7 @@ pub record IsStem (d : DdLayers) (depth place : ℕ) (path : List ℕ) : Type 0 
   pub exact : node.exact ≡ true
   pub path_is : node.path ≡ take (depth - 1) path
 
--- an exact node at the depth: it may become a child, its path has so many decisions, and its arcs lead to nodes
+-- an exact node at the depth: it may become a child, its path has this many decisions, and its arcs lead to nodes
 pub record IsExactAt (dp : Dp) (d : DdLayers) (depth : ℕ) (node : DdNode) : Type 0 where
   pub ready : IsChildReady dp depth node
   pub long : length node.path ≡ depth

@@ -1,4 +1,4 @@
-//! What a child needs in memory is put behind that of the others.
+//! What a child needs in memory is put after that of the others.
 
 ghost use Rattle.std.specs.Prelude.{◌≡◌, ◌+◌, ◌≤◌, ◌++◌, true, Some, length, option_map, vec_capacity};
 ghost use Rattle.dp_laws.specs.Diagrams.Nodes.{node_at};
@@ -6,7 +6,7 @@ ghost use Rattle.relaxed_dd.specs.Shown.{layers_of};
 
 use relaxed_dd::Diagram;
 
-/// Puts a row behind the others, for which there is room.
+/// Puts a row after the others, for which there is room.
 pub(crate) fn append_row(rows: &mut Vec<i64>, row: &[i64])
     requires { length rows.old.items + length row.now ≤ vec_capacity rows.old }
     ensures items { rows.new.items ≡ rows.old.items ++ row.now }
@@ -15,7 +15,7 @@ pub(crate) fn append_row(rows: &mut Vec<i64>, row: &[i64])
     let _ = rows.extend_from_slice(row);
 }
 
-/// Puts decisions behind the others, for which there is room.
+/// Puts decisions after the others, for which there is room.
 fn append_decisions(paths: &mut Vec<u32>, path: &[u32])
     requires { length paths.old.items + length path.now ≤ vec_capacity paths.old }
     ensures items { paths.new.items ≡ paths.old.items ++ path.now }
@@ -24,7 +24,7 @@ fn append_decisions(paths: &mut Vec<u32>, path: &[u32])
     let _ = paths.extend_from_slice(path);
 }
 
-/// Puts the kept decisions of an exact node behind the others, for which there is room. They are written to `path` first.
+/// Puts the kept decisions of an exact node after the others, for which there is room. They are written to `path` first.
 pub(crate) fn append_path(
     paths: &mut Vec<u32>,
     path: &mut [u32],

@@ -21,7 +21,7 @@ fn widest<M: DpModel>(model: &M, width: usize) -> usize
     widest
 }
 
-/// How many children of the kind a diagram leaves at most whose layers have so many nodes.
+/// How many children of the kind a diagram leaves at most whose layers have this many nodes.
 fn room_for<M: DpModel>(model: &M, kind: CutKind, wide: usize) -> usize
     requires { wide ≤ MOST_WIDTH }
     ensures room { result ≡ room_for (M.meaning (M.numbers model.now)) kind wide }
@@ -33,7 +33,7 @@ fn room_for<M: DpModel>(model: &M, kind: CutKind, wide: usize) -> usize
     }
 }
 
-/// A list with room for the children of the kind where layers have so many nodes.
+/// A list with room for the children of the kind where layers have this many nodes.
 fn prepare_list<M: DpModel>(
     alloc: Global,
     model: &M,

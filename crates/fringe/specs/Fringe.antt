@@ -28,7 +28,7 @@ same_open c os = same_at (length c.decisions) c.row os
 abbrev pub AreDifferent : Ticketed → Ticketed → Type 0
 AreDifferent a b = DifferInPlace a.subproblem b.subproblem
 
--- a fringe: tickets rise, each two differ in depth or state, and each row has so many cells
+-- a fringe: tickets rise, each two differ in depth or state, and each row has this many cells
 pub record IsFringe (words : ℕ) (os : List Ticketed) : Type 0 where
   pub tickets : HasTickets os
   pub different : EachTwo AreDifferent os

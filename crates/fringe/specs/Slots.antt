@@ -72,7 +72,7 @@ pub record IsFirstSlot (slots : List (Option Ticketed)) (s : ℕ) : Type 0 where
 abbrev pub HaveOwnTickets : List (Option Ticketed) → Type 0
 HaveOwnTickets slots = (s t : ℕ) (o p : Ticketed) → in_slot slots s ≡ Some o → in_slot slots t ≡ Some p → o.ticket ≡ p.ticket → s ≡ t
 
--- what the slots of a fringe keep: no two have one ticket, nor one depth and state, and each row has so many cells
+-- what the slots of a fringe keep: no two have one ticket, nor one depth and state, and each row has this many cells
 pub record IsOpen (words : ℕ) (slots : List (Option Ticketed)) : Type 0 where
   pub apart : HaveOwnTickets slots
   pub different : (s t : ℕ) (o p : Ticketed) → in_slot slots s ≡ Some o → in_slot slots t ≡ Some p → is_same (length o.subproblem.decisions) o.subproblem.row p ≡ true → s ≡ t

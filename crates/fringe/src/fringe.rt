@@ -49,7 +49,7 @@ impl Model for Fringe {
 }
 
 impl Fringe {
-    /// An empty fringe for rows of so many cells, with `spare` 0. It takes no memory.
+    /// An empty fringe for rows of this many cells, with `spare` 0. It takes no memory.
     pub fn new(alloc: Global, words: usize) -> Fringe
         requires { 1 ≤ words }
         ensures { result ≡ record { open_ones = []; words = words; spare = 0 } }
@@ -65,7 +65,7 @@ impl Fringe {
         Fringe { alloc, store }
     }
 
-    /// Makes `spare` at least `count`: there is room for so many more. A refusal changes nothing.
+    /// Makes `spare` at least `count`: there is room for this many more. A refusal changes nothing.
     pub fn reserve(&mut self, count: usize) -> Result<(), OutOfMemory>
         ensures kept { self.new ≡ record self.old { spare = self.new.spare } }
         ensures spare { self.old.spare ≤ self.new.spare }

@@ -9,7 +9,7 @@ use crate::reindexing::index_for;
 use crate::store::Store;
 use std::alloc::{AllocError, Global};
 
-/// So many more empty slots. It takes no memory.
+/// This many more empty slots. It takes no memory.
 fn push_empty(slots: &mut Vec<Option<Listed>>, count: usize)
     requires { vec_len slots.old + count ≤ vec_capacity slots.old }
     ensures slots { (s : ℕ) → in_slot slots.new.items s ≡ in_slot slots.old.items s }
@@ -22,9 +22,9 @@ fn push_empty(slots: &mut Vec<Option<Listed>>, count: usize)
     }
 }
 
-/// At least so many more slots, and at least a fourth of those that are there: so a fringe that grows step by step is entered anew
+/// At least this many more slots, and at least a fourth of those that are there: so a fringe that grows step by step is entered anew
 /// at a constant cost for each, and few slots stay empty. The index has room for half as many entries again as there are slots, so
-/// that it is made anew after so many pushes at the least.
+/// that it is made anew after this many pushes at the least.
 fn more_slots(alloc: Global, store: &mut Store, count: usize) -> Result<(), AllocError>
     requires stored { IsFringeStore store.old.words store.old.spare store.old.slots.items store.old.keys store.old.ranks store.old.index }
     ensures stored { IsFringeStore store.new.words store.new.spare store.new.slots.items store.new.keys store.new.ranks store.new.index }
@@ -46,7 +46,7 @@ fn more_slots(alloc: Global, store: &mut Store, count: usize) -> Result<(), Allo
     Ok(())
 }
 
-/// Makes room for so many more. A refusal leaves the open ones and `spare` as they were.
+/// Makes room for this many more. A refusal leaves the open ones and `spare` as they were.
 pub fn make_room(alloc: Global, store: &mut Store, count: usize) -> Result<(), AllocError>
     requires stored { IsFringeStore store.old.words store.old.spare store.old.slots.items store.old.keys store.old.ranks store.old.index }
     requires few { HasFewRanks store.old.slots.items store.old.ranks }

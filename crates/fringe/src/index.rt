@@ -49,7 +49,7 @@ impl Index {
         }
     }
 
-    /// An index without entries, with room for so many. It fails for want of memory, and where a place has more than 32 bits.
+    /// An index without entries, with room for this many. It fails for want of memory, and where a place has more than 32 bits.
     pub fn with_room(alloc: Global, room: usize) -> Result<Index, AllocError>
         ensures nodes { IfOk result (λ x. x.nodes ≡ []) }
         ensures room { IfOk result (λ x. room ≤ x.room) }

@@ -8,7 +8,7 @@ use crate::listed::Listed;
 use dp_model::Sub;
 use std::alloc::{AllocError, Global};
 
-/// Those in the slots with their tickets, in the order of the slots. There are so many.
+/// Those in the slots with their tickets, in the order of the slots. There are this many.
 fn list_slots<'a>(
     alloc: Global,
     slots: &'a [Option<Listed>],
@@ -25,7 +25,7 @@ fn list_slots<'a>(
     Ok(list)
 }
 
-/// Those in the slots with their tickets, in order of ticket. There are so many.
+/// Those in the slots with their tickets, in order of ticket. There are this many.
 pub fn list_by_ticket<'a>(
     alloc: Global,
     slots: &'a [Option<Listed>],

@@ -48,7 +48,7 @@ impl Ranks {
         self.heap.len()
     }
 
-    /// Makes room for so many more.
+    /// Makes room for this many more.
     pub fn reserve(&mut self, count: usize) -> Result<(), AllocError>
         ensures ranks { self.new.ranks ≡ self.old.ranks }
         ensures len { self.new.len ≡ self.old.len }

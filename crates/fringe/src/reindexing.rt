@@ -71,7 +71,7 @@ pub fn ready_index(slots: &[Option<Listed>], keys: &Region, index: &mut Index)
     }
 }
 
-/// An index of the open ones with room for so many entries.
+/// An index of the open ones with room for this many entries.
 pub fn index_for(
     alloc: Global,
     slots: &[Option<Listed>],

@@ -20,7 +20,7 @@ use Rattle.bound_cover.specs.Exploring.{rest_of}
 use Rattle.bound_cover.specs.Tests.{unless, is_state_row, arc_for, tested, gap_fault, row_arc_fault, arc_fault, listed_fault, decision_fault, decisions_fault, inner_fault, last_fault, row_fault}
 use Rattle.bound_cover.specs.Verdicts.{first_layer, rows_fault, layers_fault, covers_root, root_test, has_root, cover_fault, checked_rows}
 use Rattle.bound_cover.proofs.Faults.{first-none, first-both, unless-holds, cond-holds, at-most-over, add-at-most, at-most-below, state-of-row}
-use Rattle.bound_cover.proofs.Keeping.{IsKeptAt, Keeps, keeps-same, keeps-behind, append-behind, map-at}
+use Rattle.bound_cover.proofs.Keeping.{IsKeptAt, Keeps, keeps-same, keeps-following, append-following, map-at}
 use Rattle.bound_cover.proofs.NodeRows.{state-row}
 use Rattle.bound_cover.proofs.Rising.{Rises, rises-below, rises-filter, arc-for, with_listed-from}
 use Rattle.bound_cover.proofs.Sound.{Bounds, layers-bound}
@@ -39,7 +39,7 @@ keeps_first : (left right : List (List CoverRow)) → length left ≡ length rig
 keeps_first [] [] long = keeps-same []
 keeps_first [] (other ∷ right) long = absurd (omega arith)
 keeps_first (layer ∷ left) [] long = absurd (omega arith)
-keeps_first (layer ∷ left) (other ∷ right) long = keeps-behind layer (map (pushed_row (length (first_layer left))) other)
+keeps_first (layer ∷ left) (other ∷ right) long = keeps-following layer (map (pushed_row (length (first_layer left))) other)
 
 pushed_first : (left right : List (List CoverRow)) → length left ≡ length right → (t : ℕ) (r : CoverRow) → slice_get (first_layer right) t ≡ Some r → IsKeptAt (first_layer (beside left right)) (length (first_layer left) + t) r
 pushed_first [] [] long t r at = absurd (let none : None ≡ Some r = at in cc)
@@ -47,7 +47,7 @@ pushed_first [] (other ∷ right) long t r at = absurd (omega arith)
 pushed_first (layer ∷ left) [] long t r at = absurd (omega arith)
 pushed_first (layer ∷ left) (other ∷ right) long t r at =
     let n = length (first_layer left) in
-    record { row = pushed_row n r; at = append-behind layer (map (pushed_row n) other) t ∙ map-at (pushed_row n) other t r at; words = refl; bound = refl }
+    record { row = pushed_row n r; at = append-following layer (map (pushed_row n) other) t ∙ map-at (pushed_row n) other t r at; words = refl; bound = refl }
 
 rows_both : (dp : Dp) (k : ℕ) (next rows more : List CoverRow) (i : ℕ) → rows_fault dp k next i rows ≡ None → ((j : ℕ) → rows_fault dp k next j more ≡ None) → rows_fault dp k next i (rows ++ more) ≡ None
 rows_both dp k next [] more i e all = all i

@@ -160,19 +160,19 @@ module _ (dp : Dp) (k : ℕ) (next more : List CoverRow) where
   IsPushed n = (t : ℕ) (r : CoverRow) → slice_get next t ≡ Some r → IsKeptAt more (n + t) r
 
   push : (n : ℕ) → IsPushed n → (o : Option ℕ) → Goes next more o (option_map (λ i. n + i) o)
-  push n behind None = tt
-  push n behind (Some t) = λ r at. behind t r at
+  push n following None = tt
+  push n following (Some t) = λ r at. following t r at
 
   push_all : (n : ℕ) → IsPushed n → (xs : List CoverArc) → GoAll next more xs (map (pushed n) xs)
-  push_all n behind [] = tt
-  push_all n behind (a ∷ xs) = (refl, push n behind a.target, push_all n behind xs)
+  push_all n following [] = tt
+  push_all n following (a ∷ xs) = (refl, push n following a.target, push_all n following xs)
 
   push_arcs : (n : ℕ) → IsPushed n → (o : Option (List CoverArc)) → GoArcs next more o (option_map (map (pushed n)) o)
-  push_arcs n behind None = tt
-  push_arcs n behind (Some xs) = push_all n behind xs
+  push_arcs n following None = tt
+  push_arcs n following (Some xs) = push_all n following xs
 
   pub rows_pushed : (n : ℕ) → IsPushed n → (rows : List CoverRow) (i j : ℕ) → rows_fault dp k next i rows ≡ None → rows_fault dp k more j (map (pushed_row n) rows) ≡ None
-  rows_pushed n behind [] i j e = refl
-  rows_pushed n behind (row ∷ rows) i j e =
+  rows_pushed n following [] i j e = refl
+  rows_pushed n following (row ∷ rows) i j e =
       let parts = first-none (row_fault dp k i next row) (rows_fault dp k next (i + 1) rows) e in
-      first-both (row_fault dp k j more (pushed_row n row)) (rows_fault dp k more (j + 1) (map (pushed_row n) rows)) (row_goes i j row (pushed_row n row) refl refl (push_arcs n behind row.arcs) parts.0) (rows_pushed n behind rows (i + 1) (j + 1) parts.1)
+      first-both (row_fault dp k j more (pushed_row n row)) (rows_fault dp k more (j + 1) (map (pushed_row n) rows)) (row_goes i j row (pushed_row n row) refl refl (push_arcs n following row.arcs) parts.0) (rows_pushed n following rows (i + 1) (j + 1) parts.1)

@@ -34,7 +34,7 @@ abbrev pub all_beside : ℕ → List Branch → List (List CoverRow)
 all_beside n [] = replicate n []
 all_beside n (branch ∷ branches) = beside branch.layers (all_beside n branches)
 
--- an arc to each branch, of which the first stands behind so many rows
+-- an arc to each branch, of which the first stands after this many rows
 abbrev pub arcs_to : ℕ → List Branch → List CoverArc
 arcs_to before [] = []
 arcs_to before (branch ∷ branches) = record { decision = branch.decision; target = Some (before + branch.place) } ∷ arcs_to (before + length (first_layer branch.layers)) branches

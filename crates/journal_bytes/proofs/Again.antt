@@ -135,11 +135,11 @@ snapshot_again best next os fits =
     let second = long_again next (to_be_bytes w32 (length os) ++ flat_map listed_bytes os) fits.1 in
     let third = word_again (length os) (flat_map listed_bytes os) fits.2 in
     let last : many listed_at (length os) (flat_map listed_bytes os) ≡ Some (os, []) = ap (many listed_at (length os)) (sym (append-nil (flat_map listed_bytes os))) ∙ many_again listed_at listed_bytes ListedFits listed_again os [] (by_recursion ListedFits os fits.3) in
-    let behind : Option IncumbentView × List ℕ → Option RecordView = λ front. number_at w64 front.1 >>= λ n. number_at w32 n.1 >>= λ count. many listed_at count.0 count.1 >>= λ listed.
+    let following : Option IncumbentView × List ℕ → Option RecordView = λ front. number_at w64 front.1 >>= λ n. number_at w32 n.1 >>= λ count. many listed_at count.0 count.1 >>= λ listed.
     if length listed.1 == 0 then Some (Snapshot front.0 n.0 listed.0) else None in
     let rest = to_be_bytes w64 next ++ (to_be_bytes w32 (length os) ++ flat_map listed_bytes os) in
-    let others : behind (best, rest) ≡ Some (Snapshot best next os) = rw (second, third, last) refl in
-    ap snapshot_of (snapshot_parts best next os) ∙ ap (λ (r : Option (Option IncumbentView × List ℕ)). r >>= behind) first ∙ others
+    let others : following (best, rest) ≡ Some (Snapshot best next os) = rw (second, third, last) refl in
+    ap snapshot_of (snapshot_parts best next os) ∙ ap (λ (r : Option (Option IncumbentView × List ℕ)). r >>= following) first ∙ others
 
 -- what is spelled for a record is that record, in each version that may have it
 pub record_again : (version : ℕ) (e : RecordView) → RecordFits e → IsOfVersion version e → record_of version (record { kind = record_kind e; body = record_bytes e }) ≡ Some e

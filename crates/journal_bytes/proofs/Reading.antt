@@ -55,7 +55,7 @@ module _ (before : List ℕ) (f : Frame) (fits : Fits f) (gate : ℕ) (more : Li
       let long : nat_lt (38 + body_length front) (length front) ≡ true = grind (arith, nat_tests, length-front, front_length) in
       λ i. long i && same i
 
--- a frame with an open gate is read, and then what stands behind it
+-- a frame with an open gate is read, and then what stands after it
 pub reading_open : (n : ℕ) (before : List ℕ) (at : ℕ) (f : Frame) (more : List ℕ) (fits : Fits f) → 0 < length more
     → reading (suc n) before at (front before f fits 1 more) ≡ with_front f (reading n (digest_of before f) (at + 38 + length f.body) more)
 unfolding reading
@@ -66,7 +66,7 @@ reading_open n before at f more fits some =
     let rest = front_rest before f fits 1 more in
     λ i. if sound i then with_front (frame i) (reading n (digest_of before (frame i)) (at + 38 + size i) (rest i)) else record { frames = []; digest = before; end = at; is_whole = false }
 
--- a closed gate ends a reading, whatever stands behind it
+-- a closed gate ends a reading, whatever stands after it
 pub reading_closed : (n : ℕ) (before : List ℕ) (at gate : ℕ) (rest : List ℕ) → gate ≢ 1 → reading (suc n) before at (gate ∷ rest) ≡ record { frames = []; digest = before; end = at; is_whole = true }
 unfolding reading
 reading_closed n before at gate rest shut = grind (arith, nat_tests)

@@ -103,13 +103,13 @@ bytes_more {X} view bytes xs i d lt =
     ap (λ (l : List X). flat_map bytes (map view l)) (take_more xs i d lt) ∙ ap (flat_map bytes) (map-append view (take i xs) (one ∷ []))
     ∙ flat_map-append bytes (map view (take i xs)) (view one ∷ []) ∙ ap (λ (l : List ℕ). flat_map bytes (map view (take i xs)) ++ l) (append-nil (bytes (view one)))
 
--- a number, a bound and decisions, one behind the other
+-- a number, a bound and decisions, one after the other
 pub bounded_is : (old first second new : List ℕ) (number : ℕ) (bound : ℤ) (ds : List ℕ) → first ≡ old ++ to_be_bytes w64 number → second ≡ first ++ to_be_bytes w64 (cast_unsigned w64 bound) → new ≡ second ++ decision_bytes ds → new ≡ old ++ bounded_bytes number bound ds
 unfolding bounded_bytes
 bounded_is old first second new number bound ds a b d =
     d ∙ ap (λ (l : List ℕ). l ++ decision_bytes ds) (b ∙ ap (λ (l : List ℕ). l ++ to_be_bytes w64 (cast_unsigned w64 bound)) a) ∙ simp append_assoc
 
--- the best solution, behind the byte that tells of it
+-- the best solution, after the byte that tells of it
 pub best_is : (old first second new : List ℕ) (b : IncumbentView) → first ≡ old ++ 1 ∷ [] → second ≡ first ++ to_be_bytes w64 (cast_unsigned w64 b.value) → new ≡ second ++ decision_bytes b.decisions → new ≡ old ++ best_bytes (Some b)
 unfolding best_bytes
 best_is old first second new b a c d =

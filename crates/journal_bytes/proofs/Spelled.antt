@@ -89,8 +89,8 @@ at_gate : (before : List ℕ) (at : ℕ) (bytes : List ℕ) → 0 < length bytes
 at_gate before at [] some shut = absurd (omega arith)
 at_gate before at (a ∷ bytes) some shut = record { fit = tt; gate = a; rest = bytes; shut = shut; parts = refl; end = omega arith; digest = refl }
 
-behind : (before : List ℕ) (at : ℕ) (bytes : List ℕ) (r : Reading) → Front before bytes → Spelled (digest_of before (frame_at bytes)) (at + 38 + body_length bytes) (drop (38 + body_length bytes) bytes) r → Spelled before at bytes (with_front (frame_at bytes) r)
-behind before at bytes r front s = record {
+following : (before : List ℕ) (at : ℕ) (bytes : List ℕ) (r : Reading) → Front before bytes → Spelled (digest_of before (frame_at bytes)) (at + 38 + body_length bytes) (drop (38 + body_length bytes) bytes) r → Spelled before at bytes (with_front (frame_at bytes) r)
+following before at bytes r front s = record {
   fit = (front.fits, s.fit);
   gate = s.gate;
   rest = s.rest;
@@ -111,7 +111,7 @@ by_soundness n before at bytes again is whole open_gate true sound =
     let read = reading_sound (suc n) n before at bytes refl open_gate sound in
     let long : 0 < length rest = omega (arith, front.long, length-drop (38 + body_length bytes) bytes) in
     let next_whole : next.is_whole ≡ true = sym (ap (λ r. r.is_whole) read) ∙ whole in
-    subst (Spelled before at bytes) (sym read) (behind before at bytes next front (again (digest_of before (frame_at bytes)) (at + 38 + body_length bytes) rest (bytes_drop (38 + body_length bytes) bytes is) long next_whole))
+    subst (Spelled before at bytes) (sym read) (following before at bytes next front (again (digest_of before (frame_at bytes)) (at + 38 + body_length bytes) rest (bytes_drop (38 + body_length bytes) bytes is) long next_whole))
 
 pub spelled_from : (n : ℕ) (before : List ℕ) (at : ℕ) (bytes : List ℕ) → IsBytes bytes → 0 < length bytes → (reading n before at bytes).is_whole ≡ true → Spelled before at bytes (reading n before at bytes)
 spelled_from zero before at bytes is some whole = let none : false ≡ true = sym (ap (λ r. r.is_whole) (reading_none 0 before at bytes refl)) ∙ whole in absurd cc

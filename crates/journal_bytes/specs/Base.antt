@@ -20,16 +20,16 @@ abbrev pub from_base : List RecordView → List RecordView
 from_base [] = []
 from_base (r ∷ rs) = cond (have_snapshot rs) (from_base rs) (r ∷ rs)
 
--- the records behind the last snapshot, or all of them where there is none
+-- the records after the last snapshot, or all of them where there is none
 abbrev pub after_base : List RecordView → List RecordView
 after_base [] = []
 after_base (r ∷ rs) = cond (have_snapshot rs) (after_base rs) (cond (is_snapshot r) rs (r ∷ rs))
 
--- the offset of the gate behind that of a record at this offset
-abbrev pub behind_record : ℕ → RecordView → ℕ
-behind_record at r = at + (FRAME_OVERHEAD + record_size r)
+-- the offset of the gate after that of a record at this offset
+abbrev pub following_record : ℕ → RecordView → ℕ
+following_record at r = at + (FRAME_OVERHEAD + record_size r)
 
 -- the offset of the first record from the base on, where the records begin at this offset
 abbrev pub base_offset : ℕ → List RecordView → ℕ
 base_offset at [] = at
-base_offset at (r ∷ rs) = cond (have_snapshot rs) (base_offset (behind_record at r) rs) at
+base_offset at (r ∷ rs) = cond (have_snapshot rs) (base_offset (following_record at r) rs) at

@@ -1,4 +1,4 @@
--- The bodies of records: their fields from left to right, each as a value and the bytes behind it. Where a field is not
+-- The bodies of records: their fields from left to right, each as a value and the bytes after it. Where a field is not
 -- there, there is none.
 use Rattle.std.specs.Prelude.{ℕ, zero, suc, ◌-◌, ◌^◌, ℤ, nat_lt, ◌==◌, ◌&&◌, if◌then◌else◌, List, [], ◌∷◌, length, take, drop, Option, Some, None}
 use Rattle.std.specs.Int.{Width, w32, w64, byte_len, from_be_bytes, cast_signed}
@@ -34,17 +34,17 @@ pub data RecordView : Type 0 where
   Finish : ℕ → List ChildView → RecordView
   Snapshot : Option IncumbentView → ℕ → List ListedView → RecordView
 
--- the distance of a journal's head, the offset of the gate of the first record behind it, and the records, the oldest first
+-- the distance of a journal's head, the offset of the gate of the first record after it, and the records, the oldest first
 pub record RecordsView : Type 0 where
   pub within : ℤ
   pub first : ℕ
   pub records : List RecordView
 
--- a number of this width, and the bytes behind it
+-- a number of this width, and the bytes after it
 abbrev pub number_at : Width → List ℕ → Option (ℕ × List ℕ)
 number_at w bytes = if nat_lt (length bytes) (byte_len w) then None else Some (from_be_bytes w (take (byte_len w) bytes), drop (byte_len w) bytes)
 
--- so many items, one behind the other
+-- this many items, one after the other
 unfoldable pub many : {A : Type 0} → (List ℕ → Option (A × List ℕ)) → ℕ → List ℕ → Option (List A × List ℕ)
 many item zero bytes = Some ([], bytes)
 many item (suc n) bytes = do
@@ -52,7 +52,7 @@ many item (suc n) bytes = do
   others ← many item n first.1
   Some (first.0 ∷ others.0, others.1)
 
--- a count, and so many decisions
+-- a count, and this many decisions
 unfoldable pub decisions_at : List ℕ → Option (List ℕ × List ℕ)
 decisions_at bytes = do
   count ← number_at w32 bytes
@@ -62,7 +62,7 @@ decisions_at bytes = do
 abbrev pub ticket_of : ℕ → Option ℕ
 ticket_of n = if n == 2 ^ 64 - 1 then None else Some n
 
--- a child, and the bytes behind it
+-- a child, and the bytes after it
 unfoldable pub child_at : List ℕ → Option (ChildView × List ℕ)
 child_at bytes = do
   replaced ← number_at w64 bytes
@@ -85,7 +85,7 @@ finish_of body = do
   children ← many child_at count.0 count.1
   if length children.1 == 0 then Some (Finish ticket.0 children.0) else None
 
--- the best solution, and the bytes behind it
+-- the best solution, and the bytes after it
 unfoldable pub incumbent_at : List ℕ → Option (IncumbentView × List ℕ)
 incumbent_at bytes = do
   value ← number_at w64 bytes
@@ -97,7 +97,7 @@ unfoldable pub best_at : List ℕ → Option (Option IncumbentView × List ℕ)
 best_at [] = None
 best_at (b ∷ rest) = if b == 0 then Some (None, rest) else (if b == 1 then (incumbent_at rest >>= λ x. Some (Some x.0, x.1)) else None)
 
--- a subproblem of a snapshot, and the bytes behind it
+-- a subproblem of a snapshot, and the bytes after it
 unfoldable pub listed_at : List ℕ → Option (ListedView × List ℕ)
 listed_at bytes = do
   ticket ← number_at w64 bytes
@@ -114,6 +114,6 @@ snapshot_of body = do
   listed ← many listed_at count.0 count.1
   if length listed.1 == 0 then Some (Snapshot best.0 next.0 listed.0) else None
 
--- the record of a frame behind the head of a journal of this version: the first version has no snapshots
+-- the record of a frame after the head of a journal of this version: the first version has no snapshots
 unfoldable pub record_of : ℕ → Frame → Option RecordView
 record_of version f = if f.kind == 2 then improve_of f.body else (if f.kind == 3 then finish_of f.body else (if f.kind == 4 && version == VERSION then snapshot_of f.body else None))

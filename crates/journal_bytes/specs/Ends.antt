@@ -4,7 +4,7 @@ use Rattle.std.specs.List.{AllByRecursion}
 use Rattle.journal_bytes.specs.declared.tail.Tail.{Tail}
 use Rattle.journal_bytes.specs.Frames.{Frame, Fits, spelled, digest_after, no_digest}
 
--- The file is these frames and a closed gate where the tail says, whatever stands behind it.
+-- The file is these frames and a closed gate where the tail says, whatever stands after it.
 pub record EndsAt (file : List ℕ) (tail : Tail) (frames : List Frame) : Type 0 where
   pub fit : AllByRecursion Fits frames
   pub gate : ℕ

@@ -26,7 +26,7 @@ pub record HeadView : Type 0 where
   pub model : ModelName
   pub text : List ℕ
 
--- a head, the records behind it, and where they end
+-- a head, the records after it, and where they end
 pub record JournalView : Type 0 where
   pub head : HeadView
   pub records : List RecordView
@@ -37,12 +37,12 @@ abbrev pub or_malformed : {A : Type 0} → ℕ → Option A → Result A Refusal
 or_malformed at (Some x) = Ok x
 or_malformed at None = Err (Malformed at)
 
--- the problem by its byte, and what stands behind that
+-- the problem by its byte, and what stands after that
 unfoldable pub model_at : List ℕ → Option (ModelName × List ℕ)
 model_at [] = None
 model_at (b ∷ rest) = elim (model_of_byte b) [ None ↦ None | Some m ↦ Some (m, rest) ]
 
--- a length and so many bytes, and nothing behind them
+-- a length and this many bytes, and nothing after them
 unfoldable pub text_of : List ℕ → Option (List ℕ)
 text_of bytes = elim (number_at w32 bytes) [ None ↦ None | Some n ↦ if length n.1 == n.0 then Some n.1 else None ]
 
@@ -50,11 +50,11 @@ text_of bytes = elim (number_at w32 bytes) [ None ↦ None | Some n ↦ if lengt
 abbrev pub is_distance : ℤ → Bool
 is_distance within = int_le (pos 0) within && int_le within MOST_WITHIN
 
--- a distance, and what stands behind it
+-- a distance, and what stands after it
 unfoldable pub distance_at : List ℕ → Option (ℤ × List ℕ)
 distance_at bytes = elim (number_at w64 bytes) [ None ↦ None | Some n ↦ if is_distance (cast_signed w64 n.0) then Some (cast_signed w64 n.0, n.1) else None ]
 
--- the distance of a head of this version, and what stands behind it: heads of the first version have none, and theirs is 0
+-- the distance of a head of this version, and what stands after it: heads of the first version have none, and theirs is 0
 unfoldable pub within_at : ℕ → List ℕ → Option (ℤ × List ℕ)
 within_at version bytes = if version == 1 then Some (pos 0, bytes) else distance_at bytes
 
@@ -121,10 +121,10 @@ new_head h = head_view VERSION h
 abbrev pub journal_view : Head × RecordsView × Tail → JournalView
 journal_view j = record { head = head_view j.2.version j.0; records = j.1.records; tail = j.2 }
 
--- the offset of the gate behind the first frame, that of the head
-abbrev pub behind_head : List Frame → ℕ
-behind_head [] = 0
-behind_head (f ∷ fs) = FRAME_OVERHEAD + length f.body
+-- the offset of the gate after the first frame, that of the head
+abbrev pub after_head : List Frame → ℕ
+after_head [] = 0
+after_head (f ∷ fs) = FRAME_OVERHEAD + length f.body
 
 -- what a reader gives is what stands there, unless memory ran out
 abbrev pub Refuses : {Y : Type 0} → Refusal → Result Y Refusal → Type 0

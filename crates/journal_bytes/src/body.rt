@@ -55,7 +55,7 @@ pub(crate) fn u64_at(bytes: &[u8]) -> Result<(u64, &[u8]), BodyError>
     Ok((number, rest))
 }
 
-/// So many decisions.
+/// This many decisions.
 fn decisions_in(alloc: Global, count: u32, bytes: &[u8]) -> Result<(Vec<u32>, &[u8]), BodyError>
     ensures { Gives (λ x. (x.0.items, x.1.now)) result (many (number_at w32) count bytes.now) }
 {
@@ -99,7 +99,7 @@ fn child_of(alloc: Global, bytes: &[u8]) -> Result<(Child, &[u8]), BodyError>
     ))
 }
 
-/// So many children.
+/// This many children.
 fn children_in(alloc: Global, count: u32, bytes: &[u8]) -> Result<(Vec<Child>, &[u8]), BodyError>
     ensures { Gives (λ x. (map child_view x.0.items, x.1.now)) result (many child_at count bytes.now) }
 {
@@ -186,7 +186,7 @@ fn listed_of(alloc: Global, bytes: &[u8]) -> Result<(Listed, &[u8]), BodyError>
     ))
 }
 
-/// So many subproblems of a snapshot.
+/// This many subproblems of a snapshot.
 fn listed_in(alloc: Global, count: u32, bytes: &[u8]) -> Result<(Vec<Listed>, &[u8]), BodyError>
     ensures { Gives (λ x. (map listed_view x.0.items, x.1.now)) result (many listed_at count bytes.now) }
 {

@@ -26,7 +26,7 @@ pub(crate) struct Found {
     pub(crate) is_whole: bool,
 }
 
-/// The length of the body behind an open gate, and the digest, where the record is whole and its digest right.
+/// The length of the body after an open gate, and the digest, where the record is whole and its digest right.
 #[tactic(auto, unfolding(crate::specs::Frames::body_length, crate::specs::Frames::frame_at, crate::specs::Frames::is_sound))]
 pub(crate) fn sound_frame(before: &[u8; 32], bytes: &[u8]) -> Option<(usize, [u8; 32])>
     ensures sound { IfSome result (λ r. is_sound before.now bytes.now ≡ true) }

@@ -3,7 +3,7 @@ ghost use Rattle.journal_bytes.specs.Frames.{frames_of};
 ghost use Rattle.journal_bytes.specs.Found.{found, frame};
 ghost use Rattle.journal_bytes.specs.Ends.{EndsAt};
 ghost use Rattle.journal_bytes.specs.Views.{record_view};
-ghost use Rattle.journal_bytes.specs.Journal.{behind_head, placed_at, head_of, head_view, model_at, is_distance, is_version, distance_at, within_at, text_of, or_malformed, records_from, since_all, journal_in, journal_of, journal_view, Gives};
+ghost use Rattle.journal_bytes.specs.Journal.{after_head, placed_at, head_of, head_view, model_at, is_distance, is_version, distance_at, within_at, text_of, or_malformed, records_from, since_all, journal_in, journal_of, journal_view, Gives};
 
 use crate::body::{BodyError, record_of, u32_at, u64_at};
 use crate::frames::{FRAME_OVERHEAD, Found, Frame, read_frames};
@@ -22,7 +22,7 @@ fn placed(error: BodyError, offset: u64) -> Refusal
     }
 }
 
-/// The problem of a head, and what stands behind it.
+/// The problem of a head, and what stands after it.
 #[tactic(auto, unfolding(crate::specs::Journal::model_at))]
 fn model_in(bytes: &[u8]) -> Result<(ModelName, &[u8]), Refusal>
     ensures { Gives (λ x. (x.0, x.1.now)) result (or_malformed 0 (model_at bytes.now)) }
@@ -44,7 +44,7 @@ fn is_distance(within: i64) -> bool
     0 <= within && within <= MOST_WITHIN
 }
 
-/// A distance, and what stands behind it.
+/// A distance, and what stands after it.
 #[tactic(auto, unfolding(crate::specs::Journal::distance_at))]
 fn distance_in(bytes: &[u8]) -> Result<(i64, &[u8]), Refusal>
     ensures { Gives (λ x. (x.0, x.1.now)) result (or_malformed 0 (distance_at bytes.now)) }
@@ -60,7 +60,7 @@ fn distance_in(bytes: &[u8]) -> Result<(i64, &[u8]), Refusal>
     Ok((within, rest))
 }
 
-/// The distance of a head of a version, and what stands behind it.
+/// The distance of a head of a version, and what stands after it.
 #[tactic(auto, unfolding(crate::specs::Journal::within_at))]
 fn within_in(version: u32, bytes: &[u8]) -> Result<(i64, &[u8]), Refusal>
     ensures { Gives (λ x. (x.0, x.1.now)) result (or_malformed 0 (within_at version bytes.now)) }
@@ -161,7 +161,7 @@ fn since_all(records: &[Record]) -> u64
 fn journal_from(alloc: Global, read: Found) -> Result<(Head, Records, Tail), Refusal>
     ensures exact { Gives journal_view result (journal_in (found read)) }
     ensures tail { IfOk result (λ r. (r.2.end ≡ read.end) × (r.2.digest ≡ read.digest) × IsTrue read.is_whole) }
-    ensures first { IfOk result (λ r. r.1.first ≡ behind_head (found read).frames) }
+    ensures first { IfOk result (λ r. r.1.first ≡ after_head (found read).frames) }
     ensures within { IfOk result (λ r. r.1.within ≡ r.0.within) }
 {
     let Found {
@@ -203,8 +203,8 @@ pub fn read_journal(alloc: Global, file: &[u8]) -> Result<(Head, Records, Tail),
     // What was read is spelled so, and the tail is at its closed gate.
     ensures ends { IfOk result (λ r. EndsAt file.now r.2 (frames_of file.now)) }
 
-    // The first record stands behind the head, and the records are kept with the distance of the head.
-    ensures first { IfOk result (λ r. r.1.first ≡ behind_head (frames_of file.now)) }
+    // The first record stands after the head, and the records are kept with the distance of the head.
+    ensures first { IfOk result (λ r. r.1.first ≡ after_head (frames_of file.now)) }
     ensures within { IfOk result (λ r. r.1.within ≡ r.0.within) }
 {
     if file.len() <= 1 {

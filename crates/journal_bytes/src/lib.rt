@@ -1,10 +1,10 @@
 //! The bytes of a journal, and the head and records that they spell.
 //!
-//! A journal is a row of records. Before each stands a gate, a byte that is open only once the record is whole; behind it the
+//! A journal is a row of records. Before each stands a gate, a byte that is open only once the record is whole; after it the
 //! record's kind, the length of its body, the body, and the SHA-256 of the digest before it with all of this. `read_journal`
 //! reads a file up to the first closed gate, or gives the first cause for which it is refused; what it reads is spelled so.
 //! `head_body` and `record_body` give the one spelling of a body, which reads back as the same head or record, and `seal`
-//! what stands behind its gate. The crate touches no file. It stands on `sha2`, and on `problem_names` for a head's problem.
+//! what stands after its gate. The crate touches no file. It stands on `sha2`, and on `problem_names` for a head's problem.
 //!
 //! ```
 //! let (head, records, tail) = read_journal(alloc, &file)?;

@@ -70,7 +70,7 @@ impl Record {
         matches!(self, Record::Snapshot { .. })
     }
 
-    /// How many Finish records stand behind the last Snapshot once this record is added, where there were `since` before. The
+    /// How many Finish records stand after the last Snapshot once this record is added, where there were `since` before. The
     /// count stops at `u64::MAX`.
     pub fn since_after(&self, since: u64) -> u64
         ensures { result ≡ since_after since (record_view self.now) }

@@ -5,7 +5,7 @@ ghost use Rattle.journal_bytes.specs.Views.{record_view};
 use crate::Record;
 use std::marker::Model;
 
-/// The records of a journal behind its head, the oldest first, and the distance of the head.
+/// The records of a journal after its head, the oldest first, and the distance of the head.
 #[derive(Debug, Drop)]
 pub struct Records {
     within: i64,
@@ -23,8 +23,8 @@ impl Model for Records {
     ghost view = { λ r. record { within = r.within; first = r.first; records = map record_view r.records.items } };
 }
 
-/// How many of the records stand behind the last snapshot; all of them where there is none.
-fn count_behind(records: &[Record]) -> usize
+/// How many of the records stand after the last snapshot; all of them where there is none.
+fn count_after(records: &[Record]) -> usize
     ensures { result ≡ length (after_base (map record_view records.now)) }
 {
     let mut count = 0;
@@ -59,11 +59,11 @@ impl Records {
         self.first
     }
 
-    /// How many records stand behind the base, which is the last snapshot, or the head where there is none.
+    /// How many records stand after the base, which is the last snapshot, or the head where there is none.
     pub fn len(&self) -> usize
         ensures { result ≡ length (after_base self.now.records) }
     {
-        count_behind(self.records.as_slice())
+        count_after(self.records.as_slice())
     }
 
     /// All of them.

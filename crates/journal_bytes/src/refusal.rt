@@ -8,7 +8,7 @@ use std::alloc::{AllocError, AllocFailed};
 pub enum Refusal {
     /// There are 0 or 1 bytes, or the first gate is closed.
     NotBegun,
-    /// Behind the open gate at `offset` the bytes end before the next gate, or the digest differs.
+    /// After the open gate at `offset` the bytes end before the next gate, or the digest differs.
     Damaged { offset: u64 },
     /// The digest of the record at `offset` is right; its kind or its body is none of the grammar's, or it is the first and no
     /// head, or a later one and a head.

@@ -19,7 +19,7 @@ pub(crate) fn digest_over(before: &[u8; 32], kind: u8, body: &[u8]) -> [u8; 32]
     hasher.finalize()
 }
 
-/// What stands behind the gate of a record, and behind it a closed gate; and the digest.
+/// What stands after the gate of a record, and after it a closed gate; and the digest.
 pub fn seal(
     alloc: Global,
     before: &[u8; 32],

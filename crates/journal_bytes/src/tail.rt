@@ -7,6 +7,6 @@ pub struct Tail {
     pub digest: [u8; 32],
     /// The version of the journal, 1 or 2.
     pub version: u32,
-    /// How many Finish records stand behind the last Snapshot, or behind the head where there is none. It stops at `u64::MAX`.
+    /// How many Finish records stand after the last Snapshot, or after the head where there is none. It stops at `u64::MAX`.
     pub since: u64,
 }

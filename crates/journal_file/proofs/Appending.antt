@@ -12,7 +12,7 @@ use Rattle.journal_file.proofs.Images as images
 pub zero_shut : (gate : ℕ) → gate ≡ 0 → gate ≢ 1
 zero_shut gate zero one = omega arith
 
--- a file of these frames is settled, whatever stands behind its closed gate
+-- a file of these frames is settled, whatever stands after its closed gate
 pub settled : (file : List ℕ) (may_leave : List ℕ → Type 0) (tail : Tail) (fs : List Frame) (more : List ℕ) → AllByRecursion Fits fs → file ≡ spelled no_digest fs ++ 0 ∷ more → tail.end ≡ length (spelled no_digest fs) → tail.digest ≡ digest_after no_digest fs → Only file may_leave
     → IsSettled file may_leave tail (frames_of file) × (frames_of file ≡ fs)
 settled file may_leave tail fs more fit is end digest only =
@@ -40,10 +40,10 @@ module _ {D : Type 0} (seen : D → List ℕ) (may_leave : D → List ℕ → Ty
   pub nothing_written : ((c : List ℕ) → left_since old (moment old) c → may_leave old c) → LeavesOnly moment left_since old old P
   nothing_written only_now = started moment left_since old P (λ c left. inl (subst (ReadsAs fs) (sym (s.durable c (only_now c left))) reads))
 
-  pub behind : (mid : D) (n : ℕ) → LeavesOnly moment left_since old mid (Torn (tail.end + 1) n (seen old)) → LeavesOnly moment left_since old mid P
-  behind mid n run =
+  pub following : (mid : D) (n : ℕ) → LeavesOnly moment left_since old mid (Torn (tail.end + 1) n (seen old)) → LeavesOnly moment left_since old mid P
+  following mid n run =
       weaker moment left_since old mid (Torn (tail.end + 1) n (seen old)) P run
-      (λ c torn. inl (images.torn_behind fs s.ends.fit s.ends.gate s.ends.shut s.ends.rest f f_fits tail.end (sym s.ends.end) n c (subst (λ (l : List ℕ). Torn (tail.end + 1) n l c) s.ends.parts torn)))
+      (λ c torn. inl (images.torn_after fs s.ends.fit s.ends.gate s.ends.shut s.ends.rest f f_fits tail.end (sym s.ends.end) n c (subst (λ (l : List ℕ). Torn (tail.end + 1) n l c) s.ends.parts torn)))
 
   abbrev more : List ℕ → List ℕ
   more bytes = drop (tail.end + 1 + length bytes) (spelled no_digest fs ++ s.ends.gate ∷ s.ends.rest)
@@ -51,7 +51,7 @@ module _ {D : Type 0} (seen : D → List ℕ) (may_leave : D → List ℕ → Ty
   pub staged : (file bytes : List ℕ) → bytes ≡ sealed tail.digest f ++ 0 ∷ [] → Holds (seen old) (tail.end + 1) bytes file → file ≡ images.staged fs s.ends.fit s.ends.gate s.ends.shut s.ends.rest f f_fits tail.end (sym s.ends.end) (more (sealed (digest_after no_digest fs) f ++ 0 ∷ []))
   staged file bytes bytes_are holds =
       let same : bytes ≡ sealed (digest_after no_digest fs) f ++ 0 ∷ [] = bytes_are ∙ ap (λ (d : List ℕ). sealed d f ++ 0 ∷ []) s.ends.digest in
-      images.written_behind fs s.ends.fit s.ends.gate s.ends.shut s.ends.rest f f_fits tail.end (sym s.ends.end) file (subst (λ (l : List ℕ). Holds l (tail.end + 1) (sealed (digest_after no_digest fs) f ++ 0 ∷ []) file) s.ends.parts (subst (λ (b : List ℕ). Holds (seen old) (tail.end + 1) b file) same holds))
+      images.written_following fs s.ends.fit s.ends.gate s.ends.shut s.ends.rest f f_fits tail.end (sym s.ends.end) file (subst (λ (l : List ℕ). Holds l (tail.end + 1) (sealed (digest_after no_digest fs) f ++ 0 ∷ []) file) s.ends.parts (subst (λ (b : List ℕ). Holds (seen old) (tail.end + 1) b file) same holds))
 
   module _ (mid new : D) (bytes : List ℕ) (bytes_are : bytes ≡ sealed tail.digest f ++ 0 ∷ []) (holds : Holds (seen old) (tail.end + 1) bytes (seen mid)) where
     abbrev rest : List ℕ
@@ -59,7 +59,7 @@ module _ {D : Type 0} (seen : D → List ℕ) (may_leave : D → List ℕ → Ty
 
     pub opened : LeavesOnly moment left_since old mid (Torn (tail.end + 1) (length bytes) (seen old)) → LeavesOnly moment left_since mid new (Torn tail.end 1 (seen mid)) → LeavesOnly moment left_since old new P
     opened first second =
-        then moment left_since old mid new P (Torn tail.end 1 (seen mid)) P (behind mid (length bytes) first) second (λ c has. has)
+        then moment left_since old mid new P (Torn tail.end 1 (seen mid)) P (following mid (length bytes) first) second (λ c has. has)
         (λ c torn. images.torn_gate fs s.ends.fit s.ends.gate s.ends.shut s.ends.rest f f_fits tail.end (sym s.ends.end) rest c (subst (λ (l : List ℕ). Torn tail.end 1 l c) (staged (seen mid) bytes bytes_are holds) torn))
 
     pub acknowledged : (next : Tail) → next.end ≡ tail.end + (38 + length f.body) → next.digest ≡ digest_of tail.digest f → Holds (seen mid) tail.end (1 ∷ []) (seen new) → Only (seen new) (may_leave new)

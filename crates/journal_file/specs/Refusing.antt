@@ -6,7 +6,7 @@ use Rattle.journal_bytes.specs.declared.refusal.Refusal.TheVariants as bytes
 use Rattle.journal_bytes.specs.declared.tail.Tail.{Tail}
 use Rattle.journal_bytes.specs.Bodies.{RecordsView}
 use Rattle.journal_bytes.specs.Frames.{frames_of}
-use Rattle.journal_bytes.specs.Journal.{JournalView, behind_head, journal_of, journal_view}
+use Rattle.journal_bytes.specs.Journal.{JournalView, after_head, journal_of, journal_view}
 use Rattle.journal_file.specs.declared.append_error.AppendError.{AppendError}
 use Rattle.journal_file.specs.declared.append_error.AppendError.TheVariants as appending
 use Rattle.journal_file.specs.declared.error.JournalError.{JournalError}
@@ -42,12 +42,12 @@ Opens (Ok journal) read = read ≡ Ok (journal_view journal)
 Opens (Err e) read = IsCause e read
 
 -- Some bytes were read, those of the file where the disk tells them: what was opened is what they read as, its first record
--- stands behind their head, and an error is their first cause. Where no bytes were read, any will do.
+-- stands after their head, and an error is their first cause. Where no bytes were read, any will do.
 pub record WasOpened (tells : Bool) (seen : List ℕ) (result : Result (Head × RecordsView × Tail) JournalError) : Type 0 where
   pub file : List ℕ
   pub is_file : IsTrue tells → file ≡ seen
   pub opens : Opens result (journal_of file)
-  pub first : IfOk result (λ r. r.1.first ≡ behind_head (frames_of file))
+  pub first : IfOk result (λ r. r.1.first ≡ after_head (frames_of file))
 
 -- the error is told of the bytes that were read
 abbrev pub IsRefusal : JournalError → Type 0

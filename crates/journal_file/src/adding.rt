@@ -14,7 +14,7 @@ use disk::Disk;
 use journal_bytes::{FRAME_OVERHEAD, Record, Tail, record_body, seal};
 use std::alloc::Global;
 
-/// Adds a record of a kind and a body, behind which so many finished subproblems are counted.
+/// Adds a record of a kind and a body, after which this many finished subproblems are counted.
 pub(crate) fn append_frame<D: Disk>(
     alloc: Global,
     disk: &mut D,
@@ -57,8 +57,8 @@ pub(crate) fn append_frame<D: Disk>(
     Ok(())
 }
 
-/// Adds a record behind those that are there: its bytes behind the closed gate at `tail` and another closed gate behind them,
-/// a sync, the open gate, a sync. At Ok it is acknowledged, and `tail` is behind it.
+/// Adds a record after those that are there: its bytes after the closed gate at `tail` and another closed gate after them,
+/// a sync, the open gate, a sync. At Ok it is acknowledged, and `tail` is after it.
 ///
 /// The tail is that of `begin`, `reopen` or the `append` before, all of them Ok, for this disk; nothing was written since. A
 /// journal of version 1 takes no snapshots.

@@ -81,7 +81,7 @@ pub fn begin<D: Disk>(alloc: Global, disk: &mut D, head: &Head) -> Result<Tail, 
     requires text { length head.now.text.items ≤ 2 ^ 30 }
     requires within { IsTrue (is_distance head.now.within) }
 
-    // A record may be added behind the head.
+    // A record may be added after the head.
     ensures ready { IfOk result (λ tail. IsTrue (D.tells disk.old) →
         IsOpen (D.seen disk.new) (D.may_leave disk.new) tail × HasRecords (new_head head.now) [] (D.seen disk.new)) }
 

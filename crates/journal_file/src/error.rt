@@ -16,7 +16,7 @@ pub enum JournalError {
     NotBegun,
     /// A journal was to begin in a file that has two or more bytes, of which the first is not 0.
     Exists,
-    /// Behind the open gate at `offset` the file ends before the next gate, or the digest differs.
+    /// After the open gate at `offset` the file ends before the next gate, or the digest differs.
     Damaged { offset: u64 },
     /// The record at `offset` is whole, and its kind, its body or what it says is wrong there.
     Malformed { offset: u64 },

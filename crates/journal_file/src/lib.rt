@@ -1,8 +1,8 @@
-//! A journal in a file that may crash: a head, and records behind it, each on the disk before it is acknowledged.
+//! A journal in a file that may crash: a head, and records after it, each on the disk before it is acknowledged.
 //!
 //! `begin` writes a head into a file that has no journal, `reopen` reads a journal and finds where it goes on, `append` adds a
 //! record. A crash at any moment of a call leaves a file that reads as the records from before it, or as these and the new one;
-//! once the call is Ok, only as the latter. A record is written behind a closed gate and put on the disk before its gate is
+//! once the call is Ok, only as the latter. A record is written after a closed gate and put on the disk before its gate is
 //! opened, so no crash leaves a part of one. The crate knows no search: it stands on `disk` for what a crash may leave, and
 //! on `journal_bytes` for what bytes read as.
 //!

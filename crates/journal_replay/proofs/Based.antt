@@ -39,7 +39,7 @@ cond-append : (b : Bool) (xs ys more : List RecordView) → cond b (xs ++ more) 
 cond-append true xs ys more = refl
 cond-append false xs ys more = refl
 
--- of records behind others
+-- of records after others
 pub from-joined : (rs more : List RecordView) → from_base (rs ++ more) ≡ cond (have_snapshot more) (from_base more) (from_base rs ++ more)
 from-joined [] more = by-cases (have_snapshot more) (λ b. from_base more ≡ cond b (from_base more) more) (λ h. refl) (λ h. all-from more h)
 from-joined (r ∷ rs) more =

@@ -1,4 +1,4 @@
--- Records behind records.
+-- Records after records.
 use Rattle.std.proofs.Common.{◌≡◌, ℕ, ℤ, true, cond, List, [], ◌∷◌, ◌++◌, Option, Some, None, refl, sym, subst, arith}
 use Rattle.std.proofs.lemmas.Int.{ints}
 use Rattle.dp_model.specs.Dp.{Dp}
@@ -92,7 +92,7 @@ not-worse dp s (r ∷ rs) may =
     let next = after_record dp s r in
     most-then (value_held s.incumbent) (value_held next.incumbent) (value_held (after_records dp next rs).incumbent) (record-better dp s r may.0.0 may.0.1) (not-worse dp next rs may.1)
 
--- Records behind those of a journal.
+-- Records after those of a journal.
 
 journal-last : (dp : Dp) (starts : List (List ℕ)) (within : ℤ) (old : List RecordView) → AreSoundOf dp starts within old → IsSoundStateOf dp starts within (finished_after_all 0 old) (replay_of dp old)
 journal-last dp starts within old h =

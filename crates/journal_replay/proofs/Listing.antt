@@ -61,7 +61,7 @@ pub restart-lists : (dp : Dp) (best : Option IncumbentView) (next : ℕ) (os : L
 restart-lists dp best next os h =
     may-list-all dp 0 next os (record { own = h.own; far = h.far; above = each-of-all (λ o. 0 ≤ o.ticket) (map (listed_of dp) os) (λ o k. omega arith); ordered = h.ordered; given = h.given })
 
--- the loop: what is still to be listed may be where all may, behind the places that there are
+-- the loop: what is still to be listed may be where all may, after the places that there are
 pub record ListsOn (dp : Dp) (least next : ℕ) (places : List Place) (rest all : List ListedView) : Type 0 where
   pub may : MayListAll dp least next rest → MayListAll dp 0 next all
   pub back : MayListAll dp 0 next all → MayListAll dp least next rest

@@ -9,7 +9,7 @@ use Rattle.fringe.specs.Fringe.{is_same}
 use Rattle.fringe.specs.Tickets.{Ticketed}
 use Rattle.board_laws.specs.Board.{value_held}
 use Rattle.journal_bytes.specs.Bodies.{ChildView, RecordView, Improve, Finish, Snapshot}
-use Rattle.journal_bytes.specs.Base.{from_base, base_offset, behind_record}
+use Rattle.journal_bytes.specs.Base.{from_base, base_offset, following_record}
 use Rattle.journal_file.specs.declared.error.JournalError.{JournalError}
 use Rattle.journal_file.specs.declared.error.JournalError.TheVariants as errors
 use Rattle.journal_replay.specs.Replay.{Replayed, MayRestoreFrom, listed_at, child_of, with_child, taken_off, restarted, after_record, replay_start}
@@ -81,7 +81,7 @@ IsWrong dp s at r errors.OutOfMemory = ⊥
 -- the error is for the first of the records from this offset on that may not follow where it stands
 abbrev pub IsFirstWrong : Dp → Replayed → ℕ → List RecordView → JournalError → Type 0
 IsFirstWrong dp s at [] e = ⊥
-IsFirstWrong dp s at (r ∷ rs) e = IsWrong dp s at r e ⊎ (MayFollow dp s r × IsFirstWrong dp (after_record dp s r) (behind_record at r) rs e)
+IsFirstWrong dp s at (r ∷ rs) e = IsWrong dp s at r e ⊎ (MayFollow dp s r × IsFirstWrong dp (after_record dp s r) (following_record at r) rs e)
 
 -- so records are refused where they stand, unless memory ran out
 abbrev pub AreRefusedFrom : Dp → Replayed → ℕ → List RecordView → JournalError → Type 0

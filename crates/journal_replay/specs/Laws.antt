@@ -64,7 +64,7 @@ SnapshotsAreRecorded dp = (s : Replayed) (b : BoardState) → IsBoard dp b → I
 abbrev pub RecordsDoNotWorsen : Dp → Type 0
 RecordsDoNotWorsen dp = (s : Replayed) (rs : List RecordView) → MayGoOnAll dp s rs → OptionAtMost (value_held s.incumbent) (value_held (after_records dp s rs).incumbent)
 
--- records behind records: what is made of them, and that both are accepted and sound exactly where each part is
+-- records after records: what is made of them, and that both are accepted and sound exactly where each part is
 pub record AreJoined (dp : Dp) (s : Replayed) (rs more : List RecordView) : Type 0 where
   pub after : after_records dp s (rs ++ more) ≡ after_records dp (after_records dp s rs) more
   pub finished : (n : ℕ) → finished_after_all n (rs ++ more) ≡ finished_after_all (finished_after_all n rs) more
@@ -76,13 +76,13 @@ pub record AreJoined (dp : Dp) (s : Replayed) (rs more : List RecordView) : Type
       → StaySound dp starts within n s (rs ++ more)
   pub sound_front : (starts : List (List ℕ)) (within : ℤ) (n : ℕ) → StaySound dp starts within n s (rs ++ more) → StaySound dp starts within n s rs
 
--- records behind records are replayed one after the other
+-- records after records are replayed one after the other
 abbrev pub RecordsJoin : Dp → Type 0
 RecordsJoin dp = (s : Replayed) (rs more : List RecordView) → AreJoined dp s rs more
 
--- records behind those of a journal: what is made of all, and that all are accepted and sound where each of the new ones may follow and
+-- records after those of a journal: what is made of all, and that all are accepted and sound where each of the new ones may follow and
 -- is sound, whether or not there are snapshots among the old ones and the new ones
-pub record AreBehind (dp : Dp) (old new : List RecordView) : Type 0 where
+pub record AreAfter (dp : Dp) (old new : List RecordView) : Type 0 where
   pub after : replay_of dp (old ++ new) ≡ after_records dp (replay_of dp old) new
   pub since : finished_after_all 0 (old ++ new) ≡ finished_after_all (finished_after_all 0 old) new
   pub accepted : AreAccepted dp old → MayFollowAll dp (replay_of dp old) new → AreAccepted dp (old ++ new)
@@ -91,4 +91,4 @@ pub record AreBehind (dp : Dp) (old new : List RecordView) : Type 0 where
 
 -- a journal to which records are added is replayed on
 abbrev pub JournalsGrow : Dp → Type 0
-JournalsGrow dp = (old new : List RecordView) → AreBehind dp old new
+JournalsGrow dp = (old new : List RecordView) → AreAfter dp old new

@@ -132,7 +132,7 @@ RestartGives dp best next os (Err Accepted) = ⊥
 RestartGives dp best next os (Err NoSolution) = IfSome best (λ b. IsSolution dp b.decisions) → ⊥
 RestartGives dp best next os (Err Malformed) = IfSome best (λ b. IsSolution dp b.decisions) × (MayRestoreFrom dp (restarted dp best next os) → ⊥)
 
--- two rows with so many cells have the cells of a state
+-- two rows with this many cells have the cells of a state
 pub record AreCells (dp : Dp) (row spare : ℕ) : Type 0 where
   pub row_is : row ≡ dp.words
   pub spare_is : spare ≡ dp.words

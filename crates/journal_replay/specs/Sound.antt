@@ -9,7 +9,7 @@ use Rattle.journal_bytes.specs.Base.{from_base}
 use Rattle.journal_replay.specs.Replay.{Replayed, after_record, replay_start}
 
 -- of a search from some start prefixes: the incumbent is feasible with its value; what is listed covers from them with the reach, every bound
--- is held, and no prefix begins with another; and so many finished subproblems, and the tickets, are bounded by the number of prefixes that there are
+-- is held, and no prefix begins with another; and this many finished subproblems, and the tickets, are bounded by the number of prefixes that there are
 pub record IsSoundStateOf (dp : Dp) (starts : List (List ℕ)) (within : ℤ) (finished : ℕ) (s : Replayed) : Type 0 where
   pub incumbent : IncumbentHolds dp s.incumbent
   pub list : IsListSoundFrom dp starts within finished s.incumbent s.listed s.next_ticket

@@ -10,7 +10,7 @@ ghost use Rattle.journal_replay.specs.Places.{AreCells, BranchGives, FollowGives
 ghost use Rattle.journal_replay.specs.Replay.{after_records};
 
 use crate::children::add_children;
-use crate::offsets::offset_behind;
+use crate::offsets::offset_after;
 use crate::restarting::restarted;
 use crate::state::{Best, State};
 use crate::verdict::Verdict;
@@ -162,7 +162,7 @@ pub fn follow_all<M: DpModel>(
     for entry in records {
         let verdict = follow(alloc, model, entry, state, rows)?;
         error_at(verdict, offset)?;
-        let Some(next) = offset_behind(offset, entry) else {
+        let Some(next) = offset_after(offset, entry) else {
             return Err(JournalError::OutOfMemory);
         };
         offset = next;

@@ -47,7 +47,7 @@ pub fn records_do_not_worsen()
     ensures { (dp : Dp) → RecordsDoNotWorsen dp }
 {}
 
-/// Records behind records are accepted and sound where both parts are, and then the first part is.
+/// Records after records are accepted and sound where both parts are, and then the first part is.
 pub fn records_join()
     ensures { (dp : Dp) → RecordsJoin dp }
 {}

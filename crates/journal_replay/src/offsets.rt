@@ -1,7 +1,7 @@
 //! Where records stand in a journal, and the record that a replay begins with.
 
 ghost use Rattle.std.specs.Prelude.{◌≡◌, ◌+◌, ◌*◌, length, map, option_map, sum_by, IfSome};
-ghost use Rattle.journal_bytes.specs.Base.{base_offset, behind_record, from_base};
+ghost use Rattle.journal_bytes.specs.Base.{base_offset, following_record, from_base};
 ghost use Rattle.journal_bytes.specs.Spelling.{best_size, child_size, listed_size, record_size};
 ghost use Rattle.journal_bytes.specs.Views.{child_view, incumbent_view, listed_view, record_view};
 
@@ -64,9 +64,9 @@ fn body_size(entry: &Record) -> Option<u64>
     rest.checked_add(12)
 }
 
-/// The offset of the gate behind a record, or `None` where it is too great to be counted.
-pub fn offset_behind(offset: u64, entry: &Record) -> Option<u64>
-    ensures { IfSome result (λ next. next ≡ behind_record offset (record_view entry.now)) }
+/// The offset of the gate after a record, or `None` where it is too great to be counted.
+pub fn offset_after(offset: u64, entry: &Record) -> Option<u64>
+    ensures { IfSome result (λ next. next ≡ following_record offset (record_view entry.now)) }
 {
     let frame = body_size(entry)?.checked_add(FRAME_OVERHEAD as u64)?;
     offset.checked_add(frame)
@@ -87,7 +87,7 @@ pub fn from_base(first: u64, records: &[Record]) -> Option<(u64, &[Record])>
             offset = at;
             base = rest;
         }
-        at = offset_behind(at, entry)?;
+        at = offset_after(at, entry)?;
         rest = after;
     }
     Some((offset, base))

@@ -85,7 +85,7 @@ fn restore<M: DpModel>(
 }
 
 /// The board that the records of a journal lead to. The base is the last snapshot among them, or the start of a search where there
-/// is none. The records behind the base are followed from there, and what they list is open again under its own ticket where its
+/// is none. The records after the base are followed from there, and what they list is open again under its own ticket where its
 /// bound is above the reach, of those of one depth and state that with the greatest value and of equal ones the earliest. Nothing
 /// is out or counted, and the table is empty.
 ///

@@ -104,7 +104,7 @@ module _ (dp : Dp) (within : ℤ) (old new : List RecordView) (added : AreAdded 
       subst (λ n. IsSoundStateOf dp starts within n (replay_of dp (old ++ new))) (sym grown.since)
       (subst (IsSoundStateOf dp starts within (finished_after_all (finished_after_all 0 old) new)) (sym grown.after) (join.last starts within (finished_after_all 0 old) (added.sound starts sound)))
 
-  -- a record that may follow, and that tells what is there, may stand behind them where what is sound stays so
+  -- a record that may follow, and that tells what is there, may stand after them where what is sound stays so
   added-more : (r : RecordView) → MayFollow dp (replay_of dp (old ++ new)) r → TellsState dp (replay_of dp (old ++ new)) r
       → ((starts : List (List ℕ)) → AreSoundOf dp starts within old → IsSoundStateOf dp starts within (finished_after (finished_after_all 0 (old ++ new)) r) (after_record dp (replay_of dp (old ++ new)) r)) → AreAdded dp within old (new ++ r ∷ [])
   added-more r may tells sound =
@@ -154,7 +154,7 @@ module _ (dp : Dp) (old new : List RecordView) (b : BoardState) (k : KeepUp dp o
   snapped : SnapshotIsRecorded dp (replay_of dp (old ++ new)) b
   snapped = snapshots-recorded dp (replay_of dp (old ++ new)) b k.board k.replay
 
-  -- a snapshot of the board may stand behind the others
+  -- a snapshot of the board may stand after the others
   pub added-snapshot : AreAdded dp b.settings.within old (new ++ snapshot_record b ∷ [])
   added-snapshot = added-more dp b.settings.within old new k.added (snapshot_record b) snapped.may snapped.tells (λ starts sound. snapped.sound (k.good {starts = starts} sound))
 
@@ -185,7 +185,7 @@ module _ (dp : Dp) (laws : IsLawful dp) (old new : List RecordView) (b : BoardSt
   good-after : (starts : List (List ℕ)) → AreSoundOf dp starts (after dp b step).settings.within old → IsGoodFrom dp starts (after dp b step)
   good-after starts sound = kept.keeps.good k.board (k.good {starts = starts} (subst (λ s. AreSoundOf dp starts s.within old) kept.follows.settings sound))
 
-  -- the record of a step that is allowed may stand behind the others
+  -- the record of a step that is allowed may stand after the others
   pub added-record : (r : RecordView) → record_of_step dp b step ≡ Some r → AreAdded dp b.settings.within old (new ++ r ∷ [])
   added-record r is =
       let s = replay_of dp (old ++ new) in

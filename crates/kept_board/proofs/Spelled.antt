@@ -104,7 +104,7 @@ on_ok (Err e) P Q p then = tt
 
 -- ---- the record of a snapshot
 
--- what is listed takes no more than for so many of the most decisions that a prefix can have
+-- what is listed takes no more than for this many of the most decisions that a prefix can have
 listed-small : (os : List Ticketed) → Each (λ o. length o.subproblem.decisions ≤ 1023) os → sum_by listed_size (map listed_recorded os) ≤ 4112 * length os
 listed-small [] few = omega arith
 listed-small (o ∷ os) few =

@@ -6,7 +6,7 @@ use Rattle.journal_bytes.specs.declared.tail.Tail.{Tail}
 use Rattle.kept_board.specs.View.{KeptView}
 use Rattle.kept_board.specs.declared.limits.TheConstants.{MOST_LISTED}
 
--- whether a journal takes snapshots, and so many subproblems were finished since the last one
+-- whether a journal takes snapshots, and this many subproblems were finished since the last one
 abbrev pub has_grown : ℕ → Option Tail → Bool
 has_grown every None = false
 has_grown every (Some tail) = nat_eq tail.version VERSION && nat_le every tail.since

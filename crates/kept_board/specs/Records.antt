@@ -1,4 +1,4 @@
--- The records of a kept board: those from before, and new ones behind them.
+-- The records of a kept board: those from before, and new ones after them.
 use Rattle.std.specs.Prelude.{◌≡◌, ℕ, ℤ, List, [], ◌++◌, ◌⊎◌, sum_by}
 use Rattle.dp_model.specs.Dp.{Dp}
 use Rattle.dp_model.specs.Numbers.{OptionAtMost}
@@ -15,7 +15,7 @@ use Rattle.journal_replay.specs.Sound.{AreSoundOf, StaySound, finished_after_all
 abbrev pub IsMadeOf : Dp → List RecordView → BoardState → Type 0
 IsMadeOf dp records b = ((records ≡ []) × (b ≡ first_board dp b.settings)) ⊎ (AreAccepted dp records × (b ≡ restored_from b.settings (replay_of dp records)))
 
--- records that may stand behind old ones, which are accepted: a search adds them itself, and where the old ones are sound from some start
+-- records that may stand after old ones, which are accepted: a search adds them itself, and where the old ones are sound from some start
 -- prefixes, the search is sound from them after each of the new ones
 pub record AreAdded (dp : Dp) (within : ℤ) (old new : List RecordView) : Type 0 where
   pub accepted : AreAccepted dp old
@@ -29,7 +29,7 @@ pub record IsFrontAdded (dp : Dp) (within : ℤ) (old front : List RecordView) :
   pub sound : (starts : List (List ℕ)) → AreSoundOf dp starts within old → AreSoundOf dp starts within (old ++ front)
   pub better : OptionAtMost (value_held (replay_of dp old).incumbent) (value_held (replay_of dp (old ++ front)).incumbent)
 
--- so is each front of records that may stand behind old ones
+-- so is each front of records that may stand after old ones
 abbrev pub FrontsAreAdded : Dp → Type 0
 FrontsAreAdded dp = (within : ℤ) (old front others : List RecordView) → AreAdded dp within old (front ++ others) → IsFrontAdded dp within old front
 

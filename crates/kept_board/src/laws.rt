@@ -14,7 +14,7 @@ pub fn histories_leave<M: DpModel, D: Disk>()
     ensures { HistoriesLeave D.Disk M.meaning }
 {}
 
-/// Old records with a front of those that a search has added behind them are accepted, and sound where the old ones are; and what they
+/// Old records with a front of those that a search has added after them are accepted, and sound where the old ones are; and what they
 /// make of a search has an incumbent that is no worse than that of the old ones.
 pub fn fronts_are_added()
     ensures { (dp : Dp) → FrontsAreAdded dp }

@@ -3,9 +3,9 @@
 //!
 //! `Kept` holds a board of `board` beside a disk, and offers the steps of the board. Its record is added by `journal_file`,
 //! whose crash clauses it hands on: a crash at any moment leaves a file with the records from before, or these and the new one.
-//! What `journal_replay` makes of the records is the board all along, so whoever reads such a file has what was acknowledged. After so many
+//! What `journal_replay` makes of the records is the board all along, so whoever reads such a file has what was acknowledged. After this many
 //! finished subproblems a snapshot of the board is due: with it a reader begins there, and not at the start of the search.
-//! Behind a turn of `turn` a move is one step with its record; without a journal it is a board like any other.
+//! After a turn of `turn` a move is one step with its record; without a journal it is a board like any other.
 //!
 //! ```
 //! let mut kept = Kept::new(board, disk, Some(tail), 1024);

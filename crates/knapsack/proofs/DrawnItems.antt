@@ -7,9 +7,9 @@ use Rattle.draws.specs.Draws.{steps}
 use Rattle.draws.proofs.Steps.{steps_more, steps_none}
 use Rattle.knapsack.specs.declared.item.Item.{Item}
 use Rattle.knapsack.specs.Instance.{is_small_item}
-use Rattle.knapsack.specs.Generating.{behind_item, item_drawn, whole_weight, with_item}
+use Rattle.knapsack.specs.Generating.{after_item, item_drawn, whole_weight, with_item}
 
--- so many items are drawn from the seed, and these draws are left
+-- this many items are drawn from the seed, and these draws are left
 pub record AreDrawn (seed k x : ℕ) (items : List Item) (weight : ℕ) : Type 0 where
   pub drawn : steps with_item k [] seed ≡ (items, x)
   pub count : length items ≡ k
@@ -26,10 +26,10 @@ none_drawn seed x items from none = record {
   small = ap (list_all is_small_item) none;
 }
 
-pub one_more : (seed k x y : ℕ) (items more : List Item) (weight total : ℕ) (item : Item) → AreDrawn seed k x items weight → item ≡ item_drawn x → y ≡ behind_item x
+pub one_more : (seed k x y : ℕ) (items more : List Item) (weight total : ℕ) (item : Item) → AreDrawn seed k x items weight → item ≡ item_drawn x → y ≡ after_item x
     → is_small_item item ≡ true → item.weight * item.copies ≤ 150 → more ≡ items ++ item ∷ [] → total ≡ weight + item.weight * item.copies → AreDrawn seed (k + 1) y more total
-one_more seed k x y items more weight total item d is behind small light pushed added = record {
-  drawn = steps_more with_item k [] items more seed x y d.drawn (λ i. ((ap (λ a. items ++ a ∷ []) (sym is) ∙ sym pushed) i, sym behind i));
+one_more seed k x y items more weight total item d is following small light pushed added = record {
+  drawn = steps_more with_item k [] items more seed x y d.drawn (λ i. ((ap (λ a. items ++ a ∷ []) (sym is) ∙ sym pushed) i, sym following i));
   count = ap length pushed ∙ (let c = d.count in omega (arith, length-append items (item ∷ [])));
   weight_is = (let w = d.weight_is in omega (arith, added, sum_by-append (λ (x : Item). x.weight * x.copies) items (item ∷ []))) ∙ sym (ap whole_weight pushed);
   light = let l = d.light in omega (arith, added);

@@ -9,30 +9,30 @@ use Rattle.tokens.specs.Grammar.{times}
 use Rattle.tokens.specs.Printed.{IsBefore, ReadsPart}
 use Rattle.tokens.specs.declared.comment.Comment.TheVariants.{Never}
 use Rattle.tokens.specs.declared.instance_error.InstanceError.{InstanceError}
-use Rattle.tokens.proofs.Printing.{before_start, before_behind, reads_natural, passes_natural, finishes, ends_line_LF, ends_line_number}
+use Rattle.tokens.proofs.Printing.{before_start, before_after, reads_natural, passes_natural, finishes, ends_line_LF, ends_line_number}
 use Rattle.tokens.proofs.Repeats.{fold_pushes, times_reads}
 use Rattle.knapsack.specs.declared.item.Item.{Item}
 use Rattle.knapsack.specs.Instance.{Instance, is_small, is_small_item}
 use Rattle.knapsack.specs.Limits.{IsSmallItem}
 use Rattle.knapsack.specs.Laws.Limits.{is_small_item-is, is_small-is}
-use Rattle.knapsack.specs.Reading.{copies_at, item_behind, instance_at, instance_text}
+use Rattle.knapsack.specs.Reading.{copies_at, item_after, instance_at, instance_text}
 use Rattle.knapsack.specs.Printing.{copies_text, line_of, text_of}
 
 -- printed copies are read to the end of their line
 record ReadsCopies (c : ℕ) (tail : List ℕ) (s : TextState) : Type 0 where
-  behind : TextState
-  read : copies_at s ≡ Ok (c, behind)
-  before : IsBefore tail behind
-  comment_is : behind.comment ≡ s.comment
+  following : TextState
+  read : copies_at s ≡ Ok (c, following)
+  before : IsBefore tail following
+  comment_is : following.comment ≡ s.comment
 
 copies_left_out : (c : ℕ) (tail : List ℕ) (s : TextState) → c ≡ 1 → s.rest ≡ 10 ∷ tail → ReadsCopies c tail s
 unfolding copies_at
 copies_left_out c tail s one at =
     let ends = ends_line_LF tail s at in
     record {
-      behind = s;
+      following = s;
       read = rw ends (ap (λ (n : ℕ). let r : Result (ℕ × TextState) InstanceError = Ok (n, s) in r) (sym one));
-      before = before_behind 10 tail s refl at;
+      before = before_after 10 tail s refl at;
       comment_is = refl;
     }
 
@@ -40,12 +40,12 @@ copies_there : (c : ℕ) (tail : List ℕ) (s : TextState) → c ≤ 1000 → s.
 unfolding copies_at
 copies_there c tail s few at =
     let goes = ends_line_number (pos c) (10 ∷ tail) s (omega arith) at in
-    let number = reads_natural c 0 1000 10 tail s (omega arith) few (omega arith) refl (before_behind 32 (decimal_of (pos c) ++ (10 ∷ tail)) s refl at) in
+    let number = reads_natural c 0 1000 10 tail s (omega arith) few (omega arith) refl (before_after 32 (decimal_of (pos c) ++ (10 ∷ tail)) s refl at) in
     let ends = ends_line_LF tail (after_token s) number.rest_is in
     record {
-      behind = after_token s;
+      following = after_token s;
       read = rw (goes, number.value, ends) refl;
-      before = before_behind 10 tail (after_token s) refl number.rest_is;
+      before = before_after 10 tail (after_token s) refl number.rest_is;
       comment_is = number.comment_is;
     }
 
@@ -56,15 +56,15 @@ reads_copies c tail s few at =
       | false ↦ λ e here. copies_there c tail s few here
     ] refl at
 
--- a blank stands behind the weight
+-- a blank stands after the weight
 record BlankNext (bytes : List ℕ) : Type 0 where
   blank : ℕ
   more : List ℕ
   is : bytes ≡ blank ∷ more
   is_blank : is_blank blank ≡ true
 
-blank_behind_weight : (c : ℕ) (tail : List ℕ) → BlankNext (copies_text c ++ (10 ∷ tail))
-blank_behind_weight c tail =
+blank_after_weight : (c : ℕ) (tail : List ℕ) → BlankNext (copies_text c ++ (10 ∷ tail))
+blank_after_weight c tail =
     elim (eqb c 1) as (λ b. BlankNext (cond b [] (32 ∷ decimal_of (pos c)) ++ (10 ∷ tail))) [
       | true ↦ record { blank = 10; more = tail; is = refl; is_blank = refl }
       | false ↦ record { blank = 32; more = decimal_of (pos c) ++ (10 ∷ tail); is = refl; is_blank = refl }
@@ -74,10 +74,10 @@ line_before : (x : Item) (tail : List ℕ) → line_of x ++ tail ≡ decimal_of 
 line_before x tail = simp append_assoc
 
 -- a printed item is read
-reads_item : (x : Item) (made : List Item) (tail : List ℕ) (s : TextState) → IsSmallItem x → IsBefore (line_of x ++ tail) s → ReadsPart item_behind made (made ++ (x ∷ [])) tail s
-unfolding item_behind
+reads_item : (x : Item) (made : List Item) (tail : List ℕ) (s : TextState) → IsSmallItem x → IsBefore (line_of x ++ tail) s → ReadsPart item_after made (made ++ (x ∷ [])) tail s
+unfolding item_after
 reads_item x made tail s small before =
-    let blank = blank_behind_weight x.copies tail in
+    let blank = blank_after_weight x.copies tail in
     let ahead = subst (λ (bytes : List ℕ). IsBefore bytes s) (line_before x tail) before in
     let profit = passes_natural x.profit 0 1000000000 32 (decimal_of (pos x.weight) ++ (copies_text x.copies ++ (10 ∷ tail))) s (omega arith) small.profit (omega arith) refl ahead in
     let t = after_token s in
@@ -86,7 +86,7 @@ reads_item x made tail s small before =
     let u = after_token t in
     let copies = reads_copies x.copies tail u small.copies (weight.rest_is ∙ sym blank.is) in
     record {
-      behind = copies.behind;
+      following = copies.following;
       read = rw (profit.value, weight.value, copies.read) refl;
       before = copies.before;
       comment_is = copies.comment_is ∙ (weight.comment_is ∙ profit.comment_is);
@@ -96,9 +96,9 @@ abbrev AllSmall : List Item → List Item → Type 0
 AllSmall made xs = list_all is_small_item xs ≡ true
 
 -- the lines of the items are read
-reads_items : (xs : List Item) (s : TextState) → list_all is_small_item xs ≡ true → IsBefore (flat_map line_of xs ++ []) s → ReadsPart (times item_behind (length xs)) [] (fold (λ items x. items ++ (x ∷ [])) [] xs) [] s
+reads_items : (xs : List Item) (s : TextState) → list_all is_small_item xs ≡ true → IsBefore (flat_map line_of xs ++ []) s → ReadsPart (times item_after (length xs)) [] (fold (λ items x. items ++ (x ∷ [])) [] xs) [] s
 reads_items xs s small before =
-    times_reads item_behind line_of (λ items x. items ++ (x ∷ [])) s.comment AllSmall
+    times_reads item_after line_of (λ items x. items ++ (x ∷ [])) s.comment AllSmall
     (λ x rest made tail t held same ahead. let parts = and_parts _ _ held in (reads_item x made tail t (is_small_item-is x parts.0) ahead, parts.1))
     xs [] [] s small refl before
 
@@ -115,6 +115,6 @@ reads_back i h =
     let u = after_token t in
     let ahead = subst (λ (bytes : List ℕ). IsBefore bytes u) (sym (append-nil lines)) capacity.before in
     let items = reads_items i.items u small.items ahead in
-    let ends = finishes items.behind items.before in
+    let ends = finishes items.following items.before in
     rw (count.value, capacity.value, items.read, ends)
     (ap (λ (l : List Item). let r : Result Instance InstanceError = Ok (record { capacity = i.capacity; items = l }) in r) (fold_pushes i.items []))

@@ -112,20 +112,20 @@ begun_at runs items room place d are small within point =
     let below : (i : ℕ) → i ≤ place - 1 → (get_or (runs_of 0 0 items) i d).weight ≤ room =
     λ i h. subst (λ rs. (get_or rs i d).weight ≤ room) are (leb-true _ _ (point.0 i d (omega arith) (omega arith))) in
     let from : (i : ℕ) → place - 1 < i → i < length (runs_of 0 0 items) → room < (get_or (runs_of 0 0 items) i d).weight =
-    λ i h k. subst (λ rs. room < (get_or rs i d).weight) are (behind _ _ (point.1 i d (omega arith) (omega (arith, length-runs 0 0 items)))) in
+    λ i h k. subst (λ rs. room < (get_or rs i d).weight) are (following _ _ (point.1 i d (omega arith) (omega (arith, length-runs 0 0 items)))) in
     record {
       some = some;
       inside = under;
       run = subst (λ rs. RunAt items 0 0 room (get_or rs (place - 1) d)) (sym are) (run_at items 0 0 room (place - 1) d small (omega arith) (omega (arith, length-runs 0 0 items)) below from);
     }
   where
-    behind : (a b : ℕ) → leb a b ≡ false → b < a
-    behind a b h = grind (arith, nat_tests)
+    following : (a b : ℕ) → leb a b ≡ false → b < a
+    following a b h = grind (arith, nat_tests)
 
     some_begun : (runs : List Run) (items : List Item) (room place : ℕ) (d : Run) → runs ≡ runs_of 0 0 items → length runs ≡ length items + 1
         → IsPartitionPoint (λ r. leb r.weight room ≡ true) (λ r. leb r.weight room ≡ false) runs place → 1 ≤ place
     some_begun runs items room zero d are long point =
-        let first = behind _ _ (point.1 0 d (omega arith) (omega arith)) in
+        let first = following _ _ (point.1 0 d (omega arith) (omega arith)) in
         let is : (get_or runs 0 d).weight ≡ 0 = ap (λ rs. (get_or rs 0 d).weight) are ∙ first-weight 0 0 items d in
         absurd (omega arith)
     some_begun runs items room (suc place) d are long point = omega arith

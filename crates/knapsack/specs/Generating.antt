@@ -10,14 +10,14 @@ abbrev pub item_drawn : ℕ → Item
 item_drawn x = record { profit = 1 + drawn x % 100; weight = 1 + drawn (next x) % 50; copies = 1 + drawn (next (next x)) % 3 }
 
 -- the draws that it leaves
-abbrev pub behind_item : ℕ → ℕ
-behind_item x = next (next (next x))
+abbrev pub after_item : ℕ → ℕ
+after_item x = next (next (next x))
 
 -- the items with one more
 abbrev pub with_item : List Item → ℕ → List Item × ℕ
-with_item items x = (items ++ item_drawn x ∷ [], behind_item x)
+with_item items x = (items ++ item_drawn x ∷ [], after_item x)
 
--- so many items, one after another
+-- this many items, one after another
 abbrev pub items_drawn : ℕ → ℕ → List Item
 items_drawn n seed = (steps with_item n [] seed).0
 

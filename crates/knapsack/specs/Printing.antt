@@ -5,7 +5,7 @@ use Rattle.tokens.specs.Decimal.{decimal_of}
 use Rattle.knapsack.specs.declared.item.Item.{Item}
 use Rattle.knapsack.specs.Instance.{Instance}
 
--- the copies of an item behind a space, where they are not one
+-- the copies of an item after a space, where they are not one
 abbrev pub copies_text : ℕ → List ℕ
 copies_text c = cond (nat_eq c 1) [] (32 ∷ decimal_of (pos c))
 

@@ -3,7 +3,7 @@
 ghost use Rattle.std.specs.Prelude.{◌≡◌, ◌*◌, ◌<◌, ◌≤◌, ◌^◌, true, IfOk};
 ghost use Rattle.knapsack.specs.Instance.{is_small_item};
 ghost use Rattle.knapsack.specs.Shown.{instance_in};
-ghost use Rattle.knapsack.specs.Generating.{item_drawn, behind_item, generated};
+ghost use Rattle.knapsack.specs.Generating.{item_drawn, after_item, generated};
 
 use crate::instance::Knapsack;
 use crate::item::Item;
@@ -13,7 +13,7 @@ use std::alloc::{AllocError, Global};
 /// Draws an item: a profit from 1 to 100, a weight from 1 to 50 and 1 to 3 copies.
 fn draw_item(draws: &mut Draws) -> Item
     ensures item { result ≡ item_drawn draws.old }
-    ensures behind { draws.new ≡ behind_item draws.old }
+    ensures following { draws.new ≡ after_item draws.old }
     ensures small { is_small_item result ≡ true }
     ensures light { result.weight * result.copies ≤ 150 }
 {

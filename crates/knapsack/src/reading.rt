@@ -3,7 +3,7 @@ ghost use Rattle.std.specs.List.{list_all};
 ghost use Rattle.tokens.specs.Grammar.{Reads, times};
 ghost use Rattle.knapsack.specs.Instance.{is_small_item};
 ghost use Rattle.knapsack.specs.Shown.{instance_in};
-ghost use Rattle.knapsack.specs.Reading.{copies_at, item_behind, instance_text};
+ghost use Rattle.knapsack.specs.Reading.{copies_at, item_after, instance_text};
 
 use crate::instance::Knapsack;
 use crate::item::Item;
@@ -29,10 +29,10 @@ fn next_copies(tokens: &mut Tokens) -> Result<u32, ReadModelError>
 }
 
 /// Reads an item and appends it.
-#[tactic(auto, unfolding(crate::specs::Reading::item_behind), using(tokens::proofs::Chains::part_fails))]
+#[tactic(auto, unfolding(crate::specs::Reading::item_after), using(tokens::proofs::Chains::part_fails))]
 fn next_item(tokens: &mut Tokens, items: &mut Vec<Item>) -> Result<(), ReadModelError>
     requires { list_all is_small_item items.old.items ≡ true }
-    ensures reads { Reads (λ _. (items.new.items, tokens.new)) result (item_behind items.old.items tokens.old) }
+    ensures reads { Reads (λ _. (items.new.items, tokens.new)) result (item_after items.old.items tokens.old) }
     ensures one { OnOk result (length items.new.items ≡ length items.old.items + 1) }
     ensures small { OnOk result (list_all is_small_item items.new.items ≡ true) }
 {
@@ -51,7 +51,7 @@ fn next_item(tokens: &mut Tokens, items: &mut Vec<Item>) -> Result<(), ReadModel
 #[tactic(auto, using(tokens::proofs::Chains::times_steps))]
 fn next_items(count: u64, tokens: &mut Tokens, items: &mut Vec<Item>) -> Result<(), ReadModelError>
     requires { list_all is_small_item items.old.items ≡ true }
-    ensures reads { Reads (λ _. (items.new.items, tokens.new)) result (times item_behind count items.old.items tokens.old) }
+    ensures reads { Reads (λ _. (items.new.items, tokens.new)) result (times item_after count items.old.items tokens.old) }
     ensures count { OnOk result (length items.new.items ≡ length items.old.items + count) }
     ensures small { OnOk result (list_all is_small_item items.new.items ≡ true) }
 {

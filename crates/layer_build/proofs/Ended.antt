@@ -34,8 +34,8 @@ set-front xs n i x less fits =
     let long = length-take-le n xs fits in
     sym (set-append_left (take n xs) (drop n xs) i x (omega arith)) ∙ ap (λ l. set l i x) (take-append-drop n xs)
 
-pub set-behind : {X : Type 0} (xs : List X) (n : ℕ) (x : X) → n ≤ length xs → take n xs ++ set (drop n xs) 0 x ≡ set xs n x
-set-behind xs n x fits =
+pub set-following : {X : Type 0} (xs : List X) (n : ℕ) (x : X) → n ≤ length xs → take n xs ++ set (drop n xs) 0 x ≡ set xs n x
+set-following xs n x fits =
     let long = length-take-le n xs fits in
     let none : n - n ≡ 0 = omega arith in
     ap (λ i. take n xs ++ set (drop n xs) i x) (sym none) ∙ (sym (set-append_right (take n xs) (drop n xs) n n x long (omega arith)) ∙ ap (λ l. set l n x) (take-append-drop n xs))
@@ -43,18 +43,18 @@ set-behind xs n x fits =
 pub front-at : (xs front : List LayerView) (n i : ℕ) (d : LayerView) → front ≡ take n xs → i < n → n ≤ length xs → get_or front i d ≡ slice_index_or xs i no_layer
 front-at xs front n i d e less fits = ap (λ l. get_or l i d) e ∙ (get_or-take n xs i d less ∙ get_or_default xs i d no_layer (omega arith))
 
-pub behind-at : (xs behind : List LayerView) (n : ℕ) (d : LayerView) → behind ≡ drop n xs → n < length xs → get_or behind 0 d ≡ slice_index_or xs n no_layer
-behind-at xs behind n d e less =
+pub following-at : (xs following : List LayerView) (n : ℕ) (d : LayerView) → following ≡ drop n xs → n < length xs → get_or following 0 d ≡ slice_index_or xs n no_layer
+following-at xs following n d e less =
     let same : n + 0 ≡ n = omega arith in
     ap (λ l. get_or l 0 d) e ∙ (get_or-drop n xs 0 d ∙ (ap (λ i. get_or xs i d) same ∙ get_or_default xs n d no_layer less))
 
--- the arcs of a layer behind lead to one in front
-pub leads-behind : (xs front behind : List LayerView) (n i : ℕ) (d e : LayerView) → front ≡ take n xs → behind ≡ drop n xs → i < n → n < length xs
+-- the arcs of a layer after lead to one in front
+pub leads-following : (xs front following : List LayerView) (n i : ℕ) (d e : LayerView) → front ≡ take n xs → following ≡ drop n xs → i < n → n < length xs
     → Each (λ (node : NodeView). Each (λ (arc : DdArc). MayLead (map (λ (other : NodeView). other.suffix) (slice_index_or xs i no_layer).nodes) arc.target) node.arcs) (slice_index_or xs n no_layer).nodes
-    → Each (λ (node : NodeView). Each (λ (arc : DdArc). MayLead (map (λ (other : NodeView). other.suffix) (get_or front i d).nodes) arc.target) node.arcs) (get_or behind 0 e).nodes
-leads-behind xs front behind n i d e f b less fits h =
+    → Each (λ (node : NodeView). Each (λ (arc : DdArc). MayLead (map (λ (other : NodeView). other.suffix) (get_or front i d).nodes) arc.target) node.arcs) (get_or following 0 e).nodes
+leads-following xs front following n i d e f b less fits h =
     let Leads : LayerView → LayerView → Type 0 = λ l m. Each (λ (node : NodeView). Each (λ (arc : DdArc). MayLead (map (λ (other : NodeView). other.suffix) l.nodes) arc.target) node.arcs) m.nodes in
-    subst (λ l. Leads l (get_or behind 0 e)) (sym (front-at xs front n i d f less (omega arith))) (subst (λ m. Leads (slice_index_or xs i no_layer) m) (sym (behind-at xs behind n e b fits)) h)
+    subst (λ l. Leads l (get_or following 0 e)) (sym (front-at xs front n i d f less (omega arith))) (subst (λ m. Leads (slice_index_or xs i no_layer) m) (sym (following-at xs following n e b fits)) h)
 
 -- ---- in a stack
 

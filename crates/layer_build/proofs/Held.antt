@@ -19,7 +19,7 @@ use Rattle.layer_build.specs.Stacked.{nodes_in, room_of, second_room, places_dow
 use Rattle.layer_candidates.proofs.HeldRows.{live-right, exchange-self}
 use Rattle.layer_nodes.proofs.Holding.{held-more as stay-held}
 use Rattle.row_region.proofs.Callers.{put_row}
-use Rattle.layer_build.proofs.Places.{live-beside, live-more, held-above, held-more, held-behind, exchange-front, places-more, places-same}
+use Rattle.layer_build.proofs.Places.{live-beside, live-more, held-above, held-more, held-following, exchange-front, places-more, places-same}
 use Rattle.layer_build.proofs.Stacks.{newest-at, room-at, is-or, map-length}
 
 pub second-same : (vars : ℕ) (old new : List LayerView) → map room_of new ≡ map room_of old → second_room vars new ≡ second_room vars old
@@ -319,7 +319,7 @@ rows-dropped words width held s region e h =
     new = record s { region = region }
 
     held-last : AreHeld region s.newest.nodes
-    held-last = held-behind s.region region (places_above held s) e s.newest.nodes h.live (newest-held words width held s h)
+    held-last = held-following s.region region (places_above held s) e s.newest.nodes h.live (newest-held words width held s h)
 
     places : places_from s.last new ≡ places_of s.newest.nodes
     places = let none : s.last - s.last ≡ 0 = omega arith in ap (λ (n : ℕ). places_down (nodes_in new) s.last n ++ places_of s.newest.nodes) none

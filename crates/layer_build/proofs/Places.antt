@@ -84,5 +84,5 @@ module _ (old new : RegionView) (before : List ℕ) (e : HasExchanged old before
         live = subst (AreLive new) (append-nil rest) beside.live;
       }
 
-  pub held-behind : (nodes : List NodeView) → AreLive old (before ++ places_of nodes) → AreHeld old nodes → AreHeld new nodes
-  held-behind nodes all held = held-same old new e.words nodes (exchange-beside old new before [] e (places_of nodes) (swapped old before (places_of nodes) all)).1 held
+  pub held-following : (nodes : List NodeView) → AreLive old (before ++ places_of nodes) → AreHeld old nodes → AreHeld new nodes
+  held-following nodes all held = held-same old new e.words nodes (exchange-beside old new before [] e (places_of nodes) (swapped old before (places_of nodes) all)).1 held

@@ -6,7 +6,7 @@ use Rattle.dp_laws.specs.Width.{FitsWidth}
 use Rattle.dp_laws.specs.Diagrams.Nodes.{DdNode, DdLayers}
 use Rattle.dp_laws.specs.Rules.Compiling.{TwoLayers}
 
--- the sizes that it was prepared for, with room for so many candidates a layer; the prefix with its decisions, the layers from
+-- the sizes that it was prepared for, with room for this many candidates a layer; the prefix with its decisions, the layers from
 -- the prefix's depth to the last one that was made, the ranks of the states of that one, the least depth at which one was
 -- reduced, and the depth from which on rows are held; and the decisions of the last beam or first exact node
 pub record SpaceView : Type 0 where
@@ -27,7 +27,7 @@ pub record IsWidth (dp : Dp) (w : ℕ) : Type 0 where
   pub positive : 1 ≤ w
   pub fits : FitsWidth dp w
 
--- so many candidates are enough for each of the first n layers, and there are few of them
+-- this many candidates are enough for each of the first n layers, and there are few of them
 pub record AreEnough (dp : Dp) (w n room : ℕ) : Type 0 where
   pub some : 1 ≤ room
   pub first : (k : ℕ) → k < n → dp.choices k ≤ room

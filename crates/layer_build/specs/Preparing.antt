@@ -11,7 +11,7 @@ pub record IsMost (dp : Dp) (n most : ℕ) : Type 0 where
   pub few : most ≤ 1024
 
 -- the layers are without nodes and have their rooms: as many nodes as the width for each depth, as many as there are choices just
--- below the first layer, none above it, and so many for all candidates; and there are rows for all of them, and for a beam
+-- below the first layer, none above it, and this many for all candidates; and there are rows for all of them, and for a beam
 pub record IsReady (dp : Dp) (width room : ℕ) (s : Stack) : Type 0 where
   pub nodes : ℕ
   pub arcs : ℕ

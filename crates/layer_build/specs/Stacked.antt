@@ -20,7 +20,7 @@ no_layer = record { words = 0; nodes = []; nodes_room = 0; arcs_room = 0 }
 abbrev pub empty_layer : ℕ → ℕ → ℕ → LayerView
 empty_layer words nodes arcs = record { words = words; nodes = []; nodes_room = nodes; arcs_room = arcs }
 
--- the place of the layer at the depth: the one just below the first has its own, behind those of all depths
+-- the place of the layer at the depth: the one just below the first has its own, after those of all depths
 abbrev pub place_of : ℕ → ℕ → ℕ → ℕ
 place_of vars first depth = cond (nat_eq depth (first + 1)) vars depth
 
@@ -69,7 +69,7 @@ pub record HasAllDepths (s : Stack) : Type 0 where
   pub last : s.last ≤ s.vars
   pub count : s.vars < length s.layers.items
 
--- exact nodes at depth k have paths of so many decisions
+-- exact nodes at depth k have paths of this many decisions
 abbrev pub HaveDepth : ℕ → List DdNode → Type 0
 HaveDepth k layer = Each (λ (node : DdNode). IsTrue node.exact → length node.path ≡ k) layer
 
@@ -122,7 +122,7 @@ places_from depth s = places_above depth s ++ places_of s.newest.nodes
 abbrev pub beam_width : ℕ → ℕ
 beam_width width = max width 1024
 
--- how many rows the last layer and a beam take, where a layer has so many candidates: each of the two those of the candidates
+-- how many rows the last layer and a beam take, where a layer has this many candidates: each of the two those of the candidates
 -- and one ahead, and a beam those of its members besides
 abbrev pub rows_below : ℕ → ℕ → ℕ
 rows_below width room = room + 1 + (room + beam_width width + 1)

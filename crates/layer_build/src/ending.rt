@@ -19,11 +19,11 @@ fn end_at(layers: &mut [Layer], at: usize, below: usize)
     ensures { layers.new ≡ set layers.old at (ended_layer (map (λ other. other.suffix) (slice_index_or layers.old below no_layer).nodes) (slice_index_or layers.old at no_layer)) }
 {
     if at < below {
-        let (front, behind) = layers.split_at_mut(below);
-        set_suffixes(&mut front[at], &behind[0]);
+        let (front, following) = layers.split_at_mut(below);
+        set_suffixes(&mut front[at], &following[0]);
     } else {
-        let (front, behind) = layers.split_at_mut(at);
-        set_suffixes(&mut behind[0], &front[below]);
+        let (front, following) = layers.split_at_mut(at);
+        set_suffixes(&mut following[0], &front[below]);
     }
 }
 

@@ -7,7 +7,7 @@ ghost use Rattle.layer_build.specs.Stacked.{nodes_in, path_in, paths_at, HasDept
 use crate::stack::{Stack, layer_at};
 use layer_nodes::Layer;
 
-/// Writes the path of a node: the decisions from its ancestors down, behind the prefix.
+/// Writes the path of a node: the decisions from its ancestors down, after the prefix.
 pub(crate) fn write_path(stack: &Stack, prefix: &[u32], depth: usize, node: usize, out: &mut [u32])
     requires deep { stack.now.first ≤ depth }
     requires low { depth ≤ stack.now.last }

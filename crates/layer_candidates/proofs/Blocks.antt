@@ -6,7 +6,7 @@ use Rattle.layer_candidates.specs.Rows.{row_at}
 use Rattle.layer_candidates.proofs.HeldRows.{held-is}
 use Rattle.row_region.specs.Region.{RegionView, IsLive}
 
--- no row that fits stands behind the last one
+-- no row that fits stands after the last one
 before-last : (place words size : ℕ) → 0 < words → place * words + words ≤ size → min place (size / words - 1) ≡ place
 before-last place words size some fits =
     let count : place + 1 ≤ size / words = (le-div_iff_mul-le {k = words} {x = place + 1} {y = size} some).1 (omega arith) in

@@ -209,11 +209,11 @@ left-moved old new before left moved perm h = record {
 }
 
 -- one more is given back
-pub left-give : (old region new : RegionView) (before front behind : List ℕ) (p : ℕ) → HasLeft old before region (front ++ p ∷ behind) → new ≡ record region { rows = set region.rows p None; spare = region.spare + 1 }
-    → HasLeft old before new (front ++ behind)
-left-give old region new before front behind p h given =
-    let rest = front ++ behind in
-    let first = left-moved old region before (front ++ p ∷ behind) (p ∷ rest) (IsPermutation-middle front p behind) h in
+pub left-give : (old region new : RegionView) (before front following : List ℕ) (p : ℕ) → HasLeft old before region (front ++ p ∷ following) → new ≡ record region { rows = set region.rows p None; spare = region.spare + 1 }
+    → HasLeft old before new (front ++ following)
+left-give old region new before front following p h given =
+    let rest = front ++ following in
+    let first = left-moved old region before (front ++ p ∷ following) (p ∷ rest) (IsPermutation-middle front p following) h in
     let live = first.exchanged.live in
     record {
       exchanged = exchange-then old region new before (p ∷ rest) rest first.exchanged (exchange-give region new p given rest live);
@@ -221,13 +221,13 @@ left-give old region new before front behind p h given =
     }
 
 -- those in front stay where all others are given back
-pub left-front : (old region new : RegionView) (before front behind : List ℕ) → HasLeft old before region (front ++ behind) → HasExchanged region behind new [] → HasLeft old before new front
-left-front old region new before front behind h x =
-    let beside = exchange-beside region new behind [] x front h.exchanged.live in
+pub left-front : (old region new : RegionView) (before front following : List ℕ) → HasLeft old before region (front ++ following) → HasExchanged region following new [] → HasLeft old before new front
+left-front old region new before front following h x =
+    let beside = exchange-beside region new following [] x front h.exchanged.live in
     let Same = λ (p : ℕ). slice_get region.rows p ≡ slice_get old.rows p in
     record {
-      exchanged = subst (HasExchanged old before new) (append-nil front) (exchange-then old region new before (front ++ behind) (front ++ []) h.exchanged beside.0);
-      same = same-then old region new front (each-left Same front behind h.same) beside.1;
+      exchanged = subst (HasExchanged old before new) (append-nil front) (exchange-then old region new before (front ++ following) (front ++ []) h.exchanged beside.0);
+      same = same-then old region new front (each-left Same front following h.same) beside.1;
     }
 
 -- A row is written over.

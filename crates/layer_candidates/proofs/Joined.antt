@@ -15,7 +15,7 @@ use Rattle.layer_candidates.specs.Table.{IsTable}
 use Rattle.layer_candidates.specs.Ways.{table, way_at, rows_of, way_row, reached_by, reached_at, all_reached, bettered, IsWay, AreDistinctRows, AreWays, AreJoined}
 use Rattle.row_region.specs.Region.{RegionView}
 
--- rows that begin with so many zeros are the same where their other cells are
+-- rows that begin with this many zeros are the same where their other cells are
 pub zeros-same : (count : ℕ) (a b : List ℤ) → HasZeros count a → HasZeros count b → drop count a ≡ drop count b → a ≡ b
 zeros-same count a b za zb e = sym (take-append-drop count a) ∙ (ap₂ (λ x y. x ++ y) (za ∙ sym zb) e ∙ take-append-drop count b)
 
@@ -57,7 +57,7 @@ module _ {X : Type 0} where
           ap (λ (l : List X). l ++ g n ∷ []) front ∙ ap (λ (x : X). set (table f n) p (g p) ++ x ∷ []) last
           ∙ sym (set-append_left (table f n) (f n ∷ []) p (g p) (omega (arith, length-table f n)))
 
--- where none has the row, the new one goes behind
+-- where none has the row, the new one goes after
 joined_past : (f : ℕ → Reached) (new : Reached) (n : ℕ) (ys : List Reached) → ((k : ℕ) → k < n → row_same (f k).row new.row ≡ false) → joined (table f n ++ ys) new ≡ table f n ++ joined ys new
 joined_past f new zero ys other = refl
 joined_past f new (suc n) ys other =
@@ -257,7 +257,7 @@ module _ (region : RegionView) (ways : List Way) (way : Way) where
   pushed-none : (live : ℕ) → ((k : ℕ) → k < length ways → live_at old_row live k ≢ drop live (held_row region way.row)) → (k : ℕ) → k < length ways → new_row k ≢ new_row (length ways)
   pushed-none live none k less e = none k less (ap (drop live) (sym (pushed-before k less) ∙ (e ∙ pushed-here)))
 
-  -- a way whose state is new goes behind the others
+  -- a way whose state is new goes after the others
   pub pushed-joined : (dp : Dp) (k live : ℕ) (folds heads next folds2 heads2 next2 : List ℕ) → ((k : ℕ) → k < length ways → live_at old_row live k ≢ drop live (held_row region way.row))
       → AreJoined dp k old_row live ways folds heads next → IsWay dp k (held_row region way.row) way
       → (IsTable new_row live (length ways) folds heads next → IsTable new_row live (length ways + 1) folds2 heads2 next2)

@@ -181,15 +181,15 @@ module _ (dp : Dp) (k : ℕ) (t : Option ℤ) (above r1 r2 : RegionView) (member
         (exchange-then above r2 r3 (member_rows members) (key_rows keys) (key_rows kept) (exchange-then above r1 r2 (member_rows members) (rows_of ways) (key_rows keys) h.exchanged ordered.exchanged) left.exchanged)
 
     pub next-backward : Each (IsReachedWithin (length steps)) members → AreBackward steps → AreBackward (steps ++ map (step_of ways) kept)
-    next-backward reached back = behind steps kept (parents-low reached) back
+    next-backward reached back = following steps kept (parents-low reached) back
       where
-        behind : (before : List Step) (keys : List Key) → Each (λ key. (way_at ways key.place).parent ≤ length before) keys → AreBackward before → AreBackward (before ++ map (step_of ways) keys)
-        behind before [] low back = subst AreBackward (sym (append-nil before)) back
-        behind before (key ∷ keys) low back =
+        following : (before : List Step) (keys : List Key) → Each (λ key. (way_at ways key.place).parent ≤ length before) keys → AreBackward before → AreBackward (before ++ map (step_of ways) keys)
+        following before [] low back = subst AreBackward (sym (append-nil before)) back
+        following before (key ∷ keys) low back =
             let s = step_of ways key in
             let longer : length (before ++ s ∷ []) ≡ length before + 1 = length_push before s in
             subst AreBackward (append_assoc before (s ∷ []) (map (step_of ways) keys))
-            (behind (before ++ s ∷ []) keys (Each-then (λ (key : Key). (way_at ways key.place).parent ≤ length before) (λ (key : Key). (way_at ways key.place).parent ≤ length (before ++ s ∷ [])) keys (λ key le. omega arith) low.1)
+            (following (before ++ s ∷ []) keys (Each-then (λ (key : Key). (way_at ways key.place).parent ≤ length before) (λ (key : Key). (way_at ways key.place).parent ≤ length (before ++ s ∷ [])) keys (λ key le. omega arith) low.1)
             (λ j less. one before s low.0 back j (last_or j (length before) (omega arith))))
           where
             one : (before : List Step) (s : Step) → s.before ≤ length before → AreBackward before → (j : ℕ) → (j ≡ length before) ⊎ (j < length before) → (step_at (before ++ s ∷ []) j).before ≤ j

@@ -121,11 +121,11 @@ first-same old new zero keys same = tt
 first-same old new (suc n) [] same = tt
 first-same old new (suc n) (key ∷ keys) same = (same.0, first-same old new n keys same.1)
 
-pub record IsLooked (dp : Dp) (k : ℕ) (old region : RegionView) (leaders : List Key) (key : Key) (before front behind : List ℕ) : Type 0 where
+pub record IsLooked (dp : Dp) (k : ℕ) (old region : RegionView) (leaders : List Key) (key : Key) (before front following : List ℕ) : Type 0 where
   pub leading : Each (IsKeyIn dp k region) leaders
   pub one : IsKeyIn dp k region key
   pub led : led_by dp k region leaders key ≡ led_by dp k old leaders key
-  pub left : HasLeft old before region (front ++ key.row ∷ behind)
+  pub left : HasLeft old before region (front ++ key.row ∷ following)
 
 pub looked : (dp : Dp) (k most : ℕ) (old region : RegionView) (keys leaders kept : List Key) (i : ℕ) → Each (IsKeyIn dp k old) keys → i < length keys → ArePruned dp k most old keys leaders kept i
     → HasLeft old (key_rows keys) region (key_rows kept ++ key_rows (drop i keys))

@@ -12,13 +12,13 @@ use Rattle.layer_candidates.specs.Members.{member_rows, members_as, IsHeldAt}
 use Rattle.layer_candidates.specs.Steps.{path_at, AreBackward, IsReachedWithin}
 use Rattle.row_region.specs.Region.{RegionView}
 
--- no layer of the width has more than so many members
+-- no layer of the width has more than this many members
 pub record AreEnoughMembers (dp : Dp) (w widest : ℕ) : Type 0 where
   pub one : 1 ≤ widest
   pub choices : (k : ℕ) → k < dp.vars → dp.choices k ≤ widest
   pub width : w ≤ widest
 
--- so many candidates are enough for each layer, and so many members
+-- this many candidates are enough for each layer, and this many members
 pub record AreEnough (dp : Dp) (w room widest : ℕ) : Type 0 where
   pub first : (k : ℕ) → k < dp.vars → dp.choices k ≤ room
   pub second : (k : ℕ) → k + 1 < dp.vars → dp.choices k * dp.choices (k + 1) ≤ room
@@ -36,7 +36,7 @@ pub record HasLayers (dp : Dp) (w : ℕ) (b : Beam) : Type 0 where
   pub steps : widest + dp.vars * w ≤ vec_capacity b.steps
   pub small : widest + dp.vars * w < 2 ^ 32
 
--- so many free rows are enough for a beam: for the members of a layer, for all candidates of the next one, and for one more
+-- this many free rows are enough for a beam: for the members of a layer, for all candidates of the next one, and for one more
 pub record HasBeamRows (dp : Dp) (w spare : ℕ) : Type 0 where
   pub room : ℕ
   pub widest : ℕ
@@ -97,7 +97,7 @@ IsFirst None (Some v) out = ⊥
 IsFirst (Some r) None out = ⊥
 IsFirst (Some r) (Some v) out = (v ≡ r.value) × (out ≡ r.decisions)
 
--- a beam has memory for so many candidates, members and steps, with rows of so many cells
+-- a beam has memory for this many candidates, members and steps, with rows of this many cells
 pub record HasMade (words room widest steps : ℕ) (b : Beam) : Type 0 where
   pub candidates : HasMemory words room b.candidates
   pub members : widest ≤ vec_capacity b.members

@@ -9,7 +9,7 @@ use Rattle.layer_candidates.specs.Members.{members_as}
 use Rattle.layer_candidates.specs.Ways.{all_reached, AreJoined}
 use Rattle.row_region.specs.Region.{RegionView}
 
--- there is memory for so many ways
+-- there is memory for this many ways
 pub record HasWayRoom (count ways_room : ℕ) (folds next : List ℕ) : Type 0 where
   pub ways_hold : count ≤ ways_room
   pub folds_hold : count ≤ length folds

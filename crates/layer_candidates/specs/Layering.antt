@@ -14,7 +14,7 @@ use Rattle.layer_candidates.specs.WayTables.{HasTableRoom}
 use Rattle.layer_candidates.specs.Ways.{rows_of, way_row, all_reached, AreDistinct}
 use Rattle.row_region.specs.Region.{RegionView}
 
--- there is memory for so many candidates, whose rows have so many cells
+-- there is memory for this many candidates, whose rows have this many cells
 pub record HasMemory (words count : ℕ) (c : Candidates) : Type 0 where
   pub parent : vec_len c.parent ≡ words
   pub table : HasTableRoom count c.table

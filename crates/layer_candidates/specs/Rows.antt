@@ -9,6 +9,6 @@ row_at cells words place = take words (drop (place * words) cells)
 abbrev pub live_at : (ℕ → List ℤ) → ℕ → ℕ → List ℤ
 live_at row live place = drop live (row place)
 
--- so many first cells of a row are zero
+-- this many first cells of a row are zero
 abbrev pub HasZeros : ℕ → List ℤ → Type 0
 HasZeros count row = take count row ≡ replicate count (pos 0)

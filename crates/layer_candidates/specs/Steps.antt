@@ -11,7 +11,7 @@ abbrev pub paths_after : List (List ℕ) → List Step → List (List ℕ)
 paths_after paths [] = paths
 paths_after paths (s ∷ steps) = paths_after (paths ++ (slice_index_or paths s.before [] ++ s.decision ∷ []) ∷ []) steps
 
--- the path of a step behind the prefix, which is that of 0
+-- the path of a step after the prefix, which is that of 0
 abbrev pub path_at : List ℕ → List Step → ℕ → List ℕ
 path_at prefix steps i = slice_index_or (paths_after (prefix ∷ []) steps) i []
 
@@ -32,6 +32,6 @@ IsReachedWithin n m = m.step ≤ n
 abbrev pub step_at : List Step → ℕ → Step
 step_at steps j = slice_index_or steps j (record { before = 0; decision = 0 })
 
--- each step is behind an earlier one, or behind the prefix
+-- each step is after an earlier one, or after the prefix
 abbrev pub AreBackward : List Step → Type 0
 AreBackward steps = (j : ℕ) → j < length steps → (step_at steps j).before ≤ j

@@ -4,7 +4,7 @@ use Rattle.std.specs.Prelude.{◌≡◌, ◌≢◌, ◌⊎◌, ℕ, zero, suc, �
 use Rattle.layer_candidates.specs.Rows.{live_at}
 use Rattle.dp_model.specs.Folds.{fold_of}
 
--- the slot of a fold among so many
+-- the slot of a fold among this many
 abbrev pub slot_of : ℕ → ℕ → ℕ
 slot_of fold size = bit_and fold (size - 1)
 
@@ -32,7 +32,7 @@ pub record IsRowFound (row : ℕ → List ℤ) (live count : ℕ) (new : List �
   pub same : place < count → live_at row live place ≡ new
   pub none : place ≡ count → (k : ℕ) → k < count → live_at row live k ≢ new
 
--- of so many rows the new one was found at the place, or put in behind them
+-- of this many rows the new one was found at the place, or put in after them
 pub record IsPlaced (row : ℕ → List ℤ) (old new : ℕ) (state : List ℤ) (place : ℕ) : Type 0 where
   pub same : row place ≡ state
   pub grown : ((place < old) × (new ≡ old)) ⊎ ((place ≡ old) × (new ≡ old + 1))

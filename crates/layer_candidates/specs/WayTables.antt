@@ -12,7 +12,7 @@ pub record HasSlots (t : WayTable) : Type 0 where
   pub power : IsPowerOfTwo t.slots
   pub hold : t.slots ≤ vec_capacity t.heads
 
--- there is memory for so many ways and for the slots
+-- there is memory for this many ways and for the slots
 pub record HasTableRoom (count : ℕ) (t : WayTable) : Type 0 where
   pub ways : HasWayRoom count (vec_capacity t.ways) t.folds.items t.next.items
   pub slots : HasSlots t

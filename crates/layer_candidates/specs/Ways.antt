@@ -59,7 +59,7 @@ pub record IsWay (dp : Dp) (k : ℕ) (row : List ℤ) (way : Way) : Type 0 where
   pub rank : way.rank ≡ dp.rank k row
   pub value : IsNearly way.value
 
--- so many first cells are zero in each state of the layer at depth k
+-- this many first cells are zero in each state of the layer at depth k
 abbrev pub AllHaveZeros : Dp → ℕ → ℕ → Type 0
 AllHaveZeros dp k count = (s : List ℤ) → IsStateOf dp k s → HasZeros count s
 

@@ -208,7 +208,7 @@ impl Beam {
         Beamed { value, reduced }
     }
 
-    /// Memory for so many candidates a layer, so many members and so many steps, with rows of so many cells.
+    /// Memory for this many candidates a layer, this many members and this many steps, with rows of this many cells.
     pub fn prepare(
         alloc: Global,
         words: usize,

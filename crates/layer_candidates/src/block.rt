@@ -4,9 +4,9 @@ ghost use Rattle.std.specs.Prelude.{◌≡◌, ◌+◌, ◌*◌, ◌≤◌, leng
 
 use row_region::Region;
 
-/// The rows of a region, one behind the other, each read from the first live cell on. There is at least one.
+/// The rows of a region, one after the other, each read from the first live cell on. There is at least one.
 ///
-/// What it keeps lets a row be read with no test: of any place, since one behind the last row reads that one.
+/// What it keeps lets a row be read with no test: of any place, since one after the last row reads that one.
 #[derive(Clone, Copy)]
 pub struct Block<'r> {
     cells: &'r [i64],
@@ -26,7 +26,7 @@ impl<'r> Block<'r> {
     ghost use Rattle.layer_candidates.specs.Rows.{HasZeros};
     ghost use Rattle.row_region.specs.Region.{IsLive};
 
-    /// The rows of a region that holds some row, and so many cells are zero first in that one.
+    /// The rows of a region that holds some row, and this many cells are zero first in that one.
     pub fn of(region: &'r Region, live: usize) -> Block<'r>
         requires some { (place : ℕ) × IsLive region.now place × HasZeros live (held_row region.now place) }
         ensures { (place : ℕ) → IsLive region.now place → block_row result place ≡ drop live (held_row region.now place) }
@@ -41,7 +41,7 @@ impl<'r> Block<'r> {
         }
     }
 
-    /// The live cells of the row at the place, or of the last row where it is behind that one.
+    /// The live cells of the row at the place, or of the last row where it is after that one.
     fn row(&self, place: u32) -> &'r [i64]
         ensures { result.now ≡ block_row self.now place }
     {

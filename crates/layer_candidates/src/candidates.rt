@@ -32,7 +32,7 @@ pub struct Candidates {
 }
 
 impl Candidates {
-    /// Memory for so many candidates, with rows of so many cells.
+    /// Memory for this many candidates, with rows of this many cells.
     pub fn prepare(alloc: Global, words: usize, room: usize) -> Result<Candidates, OutOfMemory>
         requires { room + 1 < 2 ^ 32 }
         ensures { IfOk result (λ c. HasMemory words room c) }

@@ -1,4 +1,4 @@
-/// A step: a decision behind an earlier step, or behind the prefix where that is 0. The steps are numbered from 1 on.
+/// A step: a decision after an earlier step, or after the prefix where that is 0. The steps are numbered from 1 on.
 #[derive(Clone, Copy, Debug)]
 pub struct Step {
     /// The step before.

@@ -5,7 +5,7 @@ ghost use Rattle.layer_candidates.specs.Steps.{path_at, AreBackward};
 
 use crate::step::Step;
 
-/// Writes the path of the step behind the prefix.
+/// Writes the path of the step after the prefix.
 pub fn write_path(steps: &[Step], last: usize, prefix: &[u32], out: &mut [u32])
     requires backward { AreBackward steps.now }
     requires within { last ≤ length steps.now }

@@ -19,33 +19,33 @@ two-right : (xs ys : List ℕ) → EachTwo (λ (a b : ℕ). a ≢ b) (xs ++ ys) 
 two-right [] ys h = h
 two-right (x ∷ xs) ys h = two-right xs ys h.1
 
-pub live-right : (region : RegionView) (front behind : List ℕ) → AreLive region (front ++ behind) → AreLive region behind
-live-right region front behind h = record { live = each-right (IsLive region) front behind h.live; apart = two-right front behind h.apart }
+pub live-right : (region : RegionView) (front following : List ℕ) → AreLive region (front ++ following) → AreLive region following
+live-right region front following h = record { live = each-right (IsLive region) front following h.live; apart = two-right front following h.apart }
 
 -- only the first nodes stay
 module _ (old new : RegionView) (nodes : List Node) (width : ℕ) (live : AreLive old (rows_in nodes)) where
   abbrev front : List ℕ
   front = rows_in (take width nodes)
 
-  abbrev behind : List ℕ
-  behind = rows_in (drop width nodes)
+  abbrev following : List ℕ
+  following = rows_in (drop width nodes)
 
-  parts : rows_in nodes ≡ front ++ behind
+  parts : rows_in nodes ≡ front ++ following
   parts = sym (ap rows_in (take-append-drop width nodes)) ∙ map-append (λ (node : Node). node.row) (take width nodes) (drop width nodes)
 
-  both : AreLive old (front ++ behind)
+  both : AreLive old (front ++ following)
   both = subst (AreLive old) parts live
 
-  pub behind-live : AreLive old behind
-  behind-live = live-right old front behind both
+  pub following-live : AreLive old following
+  following-live = live-right old front following both
 
-  pub first-exchanged : HasExchanged old behind new [] → HasExchanged old (rows_in nodes) new front
+  pub first-exchanged : HasExchanged old following new [] → HasExchanged old (rows_in nodes) new front
   first-exchanged given =
-      subst (λ l. HasExchanged old l new front) (sym parts) (subst (HasExchanged old (front ++ behind) new) (append-nil front) (exchange-beside old new behind [] given front both).0)
+      subst (λ l. HasExchanged old l new front) (sym parts) (subst (HasExchanged old (front ++ following) new) (append-nil front) (exchange-beside old new following [] given front both).0)
 
-  pub first-rows : (row : ℕ → List ℤ) → HasExchanged old behind new [] → HaveRows old row (rows_in nodes) → HaveRows new row front
+  pub first-rows : (row : ℕ → List ℤ) → HasExchanged old following new [] → HaveRows old row (rows_in nodes) → HaveRows new row front
   first-rows row given have =
-      rows-same old new row front given.words (exchange-beside old new behind [] given front both).1 (each-left (λ (p : ℕ). IsRow old p (row p)) front behind (subst (HaveRows old row) parts have))
+      rows-same old new row front given.words (exchange-beside old new following [] given front both).1 (each-left (λ (p : ℕ). IsRow old p (row p)) front following (subst (HaveRows old row) parts have))
 
 -- one row among others is given back
 module _ (old new : RegionView) (front rest : List ℕ) (p : ℕ) (live : AreLive old (front ++ p ∷ rest)) (given : new ≡ record old { rows = set old.rows p None; spare = old.spare + 1 }) where
@@ -61,7 +61,7 @@ module _ (old new : RegionView) (front rest : List ℕ) (p : ℕ) (live : AreLiv
       rows-same old new row (front ++ rest) whole.0.words
       (Each-append _ front rest whole.1 (given-same old new p given rest here.apart.0 here.live.1)) have
 
--- one row more stands behind the others
+-- one row more stands after the others
 pub exchange-push : (old new : RegionView) (places : List ℕ) (p : ℕ) (row : List ℤ) → AreLive old places → HasPut old p row new → length row ≡ old.words → HasExchanged old places new (places ++ p ∷ [])
 exchange-push old new places p row live put long =
     subst (λ l. HasExchanged old l new (places ++ p ∷ [])) (append-nil places)

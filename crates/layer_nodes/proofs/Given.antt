@@ -52,7 +52,7 @@ module _ (region : RegionView) (row : ℕ → List ℤ) where
 
 -- ---- step by step
 
--- the first i nodes were looked at: the region has the rows of those that stay, so many, and of those that are left
+-- the first i nodes were looked at: the region has the rows of those that stay, this many, and of those that are left
 pub record AreGiven (base : RegionView) (old now : List Node) (leaders : List LeaderAt) (region : RegionView) (stay i : ℕ) : Type 0 where
   pub exchanged : HasExchanged base (rows_in old) region (rows_in (take stay now) ++ rows_in (drop i old))
   pub held : HaveRows region (held_row base) (rows_in (take stay now) ++ rows_in (drop i old))

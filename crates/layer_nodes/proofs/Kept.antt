@@ -1,10 +1,10 @@
--- Arcs that lose their targets behind a width.
+-- Arcs that lose their targets after a width.
 use Rattle.std.proofs.Common.{◌≡◌, ℕ, zero, suc, ◌+◌, ◌-◌, ◌<◌, ◌≤◌, nat_lt, ℤ, pos, ◌+ℤ◌, true, false, cond, List, ◌++◌, length, replicate, slice_get, Option, Some, None, option_and_then, ◌⊎◌, inl, inr, refl, sym, ◌∙◌, ap, arith}
 use Rattle.std.proofs.lemmas.Int.{ints}
 use Rattle.dp_laws.specs.declared.arc.DdArc.{DdArc}
 use Rattle.dp_laws.specs.Diagrams.Nodes.{DdNode}
 use Rattle.dp_laws.proofs.Diagrams.Places.{slice_get-append}
-use Rattle.dp_laws.proofs.Rules.Merged.{behind, length-staying, staying-at}
+use Rattle.dp_laws.proofs.Rules.Merged.{following, length-staying, staying-at}
 use Rattle.dp_laws.specs.Rules.Redirects.{Redirect, redirected_by, redirected}
 use Rattle.dp_laws.specs.Rules.Reducing.{staying, keep_redirects}
 use Rattle.layer_nodes.specs.Keeping.{kept_target, kept_arc}
@@ -31,7 +31,7 @@ kept-some width m i = go (let at : (i < width) ⊎ (width ≤ i) = grind arith i
         let test : nat_lt i width ≡ false = grind arith in
         let sum : i ≡ width + (i - width) = omega arith in
         ap (λ j. option_and_then (λ (l : Option Redirect). l) (slice_get (staying width ++ replicate m None) j)) sum
-        ∙ (ap (option_and_then (λ (l : Option Redirect). l)) (behind (staying width) (replicate m None) width (i - width) (length-staying width))
+        ∙ (ap (option_and_then (λ (l : Option Redirect). l)) (following (staying width) (replicate m None) width (i - width) (length-staying width))
         ∙ (none-there m (i - width) ∙ ap (λ b. cond b (Some (record { place = i; longer = pos 0 })) None) (sym test)))
 
 by-test : (arc : DdArc) (i : ℕ) → (b : _) → record arc { target = cond b (Some i) None } ≡ redirected_by arc (cond b (Some (record { place = i; longer = pos 0 })) None)

@@ -18,5 +18,5 @@ pub mod Kept
 pub mod Merged
 pub mod MergedLayers
 pub mod Ended
-pub mod Behind
+pub mod Following
 pub mod Holding

@@ -78,7 +78,7 @@ left-at (o ∷ old) [] i d left same less = absurd (omega arith)
 left-at (o ∷ old) (n ∷ now) zero d left same less = ap (λ l. get_or l 0 d) left
 left-at (o ∷ old) (n ∷ now) (suc i) d left same less = left-at old now i d left (omega arith) (omega arith)
 
--- the elements behind it
+-- the elements after it
 pub left-after : {X : Type 0} (old now : List X) (i : ℕ) → drop i now ≡ drop i old → length now ≡ length old → drop (i + 1) now ≡ drop (i + 1) old
 left-after old now i left same = let one : i + 1 ≡ suc i = omega arith in ap (λ n. drop n now) one ∙ (next old now i left same ∙ ap (λ n. drop n old) (sym one))
   where

@@ -39,20 +39,20 @@ module _ (dp : Dp) (k : ℕ) (t : Option ℤ) where
 abbrev redirect_at : List (Option Redirect) → ℕ → Option Redirect
 redirect_at redirects i = option_and_then (λ l. l) (slice_get redirects i)
 
--- where the second goes from where the first one goes, when the places of the second are those behind so many
+-- where the second goes from where the first one goes, when the places of the second are those after this many
 pub record GoesOn (n : ℕ) (seconds : List (Option Redirect)) (first : Redirect) (whole : Option Redirect) : Type 0 where
   pub longer : first.longer ≡ pos 0
   pub place : ℕ
   pub at : first.place ≡ n + place
   pub goes : redirect_at seconds place ≡ whole
 
-abbrev behind : ℕ → List (Option Redirect) → Option Redirect → Option Redirect → Type 0
-behind n seconds None whole = whole ≡ None
-behind n seconds (Some first) whole = GoesOn n seconds first whole
+abbrev following : ℕ → List (Option Redirect) → Option Redirect → Option Redirect → Type 0
+following n seconds None whole = whole ≡ None
+following n seconds (Some first) whole = GoesOn n seconds first whole
 
-behind-more : (n : ℕ) (o : Option Redirect) (seconds : List (Option Redirect)) (first whole : Option Redirect) → behind (n + 1) seconds first whole → behind n (o ∷ seconds) first whole
-behind-more n o seconds None whole h = h
-behind-more n o seconds (Some first) whole h = record { longer = h.longer; place = suc h.place; at = (let e = h.at in omega arith); goes = h.goes }
+following-more : (n : ℕ) (o : Option Redirect) (seconds : List (Option Redirect)) (first whole : Option Redirect) → following (n + 1) seconds first whole → following n (o ∷ seconds) first whole
+following-more n o seconds None whole h = h
+following-more n o seconds (Some first) whole h = record { longer = h.longer; place = suc h.place; at = (let e = h.at in omega arith); goes = h.goes }
 
 abbrev here : ℕ → Redirect
 here place = record { place = place; longer = pos 0 }
@@ -62,7 +62,7 @@ module _ (dp : Dp) (k : ℕ) (t : Option ℤ) where
   prunes leaders place nodes = prune_redirects dp k t leaders place nodes
 
   abbrev Follows : List Leader → ℕ → ℕ → List DdNode → ℕ → Type 0
-  Follows leaders place n nodes i = behind n (prunes leaders place (sifted_nodes dp k t nodes)) (redirect_at (sift_redirects dp k t n nodes) i) (redirect_at (prunes leaders place nodes) i)
+  Follows leaders place n nodes i = following n (prunes leaders place (sifted_nodes dp k t nodes)) (redirect_at (sift_redirects dp k t n nodes) i) (redirect_at (prunes leaders place nodes) i)
 
   module _ (leaders : List Leader) (place n : ℕ) (node : DdNode) where
     -- the redirects from a node on that is not struck
@@ -73,47 +73,47 @@ module _ (dp : Dp) (k : ℕ) (t : Option ℤ) where
     unstruck-is nodes e = ap (λ b. cond b (None ∷ prunes leaders place nodes) (unstruck_from (is_some (at_leader dp k leaders node)) nodes)) e
 
     module _ (nodes : List DdNode) (later : (leaders : List Leader) (place n i : ℕ) → Follows leaders place n nodes i) where
-      stays : (led : Bool) (i : ℕ) → behind n (unstruck_from led (sifted_nodes dp k t nodes)) (redirect_at (Some (here n) ∷ sift_redirects dp k t (n + 1) nodes) i) (redirect_at (unstruck_from led nodes) i)
+      stays : (led : Bool) (i : ℕ) → following n (unstruck_from led (sifted_nodes dp k t nodes)) (redirect_at (Some (here n) ∷ sift_redirects dp k t (n + 1) nodes) i) (redirect_at (unstruck_from led nodes) i)
       stays true zero = record { longer = refl; place = 0; at = omega arith; goes = refl }
       stays false zero = record { longer = refl; place = 0; at = omega arith; goes = refl }
-      stays true (suc i) = behind-more n (at_leader dp k leaders node) (prunes leaders place (sifted_nodes dp k t nodes)) (redirect_at (sift_redirects dp k t (n + 1) nodes) i) (redirect_at (prunes leaders place nodes) i) (later leaders place (n + 1) i)
+      stays true (suc i) = following-more n (at_leader dp k leaders node) (prunes leaders place (sifted_nodes dp k t nodes)) (redirect_at (sift_redirects dp k t (n + 1) nodes) i) (redirect_at (prunes leaders place nodes) i) (later leaders place (n + 1) i)
       stays false (suc i) =
           let past = leaders_past leaders place node in
-          behind-more n (Some (here place)) (prunes past (place + 1) (sifted_nodes dp k t nodes)) (redirect_at (sift_redirects dp k t (n + 1) nodes) i) (redirect_at (prunes past (place + 1) nodes) i) (later past (place + 1) (n + 1) i)
+          following-more n (Some (here place)) (prunes past (place + 1) (sifted_nodes dp k t nodes)) (redirect_at (sift_redirects dp k t (n + 1) nodes) i) (redirect_at (prunes past (place + 1) nodes) i) (later past (place + 1) (n + 1) i)
 
-      struck : (i : ℕ) → behind n (prunes leaders place (sifted_nodes dp k t nodes)) (redirect_at (None ∷ sift_redirects dp k t n nodes) i) (redirect_at (None ∷ prunes leaders place nodes) i)
+      struck : (i : ℕ) → following n (prunes leaders place (sifted_nodes dp k t nodes)) (redirect_at (None ∷ sift_redirects dp k t n nodes) i) (redirect_at (None ∷ prunes leaders place nodes) i)
       struck zero = refl
       struck (suc i) = later leaders place n i
 
       by-test : (b : Bool) (i : ℕ) → is_struck dp k t node ≡ b → Follows leaders place n (node ∷ nodes) i
       by-test true i e =
           let kept = sifted_nodes dp k t nodes in
-          subst (λ b. behind n (prunes leaders place (cond (not b) (node ∷ kept) kept)) (redirect_at (cond b (None ∷ sift_redirects dp k t n nodes) (Some (here n) ∷ sift_redirects dp k t (n + 1) nodes)) i)
+          subst (λ b. following n (prunes leaders place (cond (not b) (node ∷ kept) kept)) (redirect_at (cond b (None ∷ sift_redirects dp k t n nodes) (Some (here n) ∷ sift_redirects dp k t (n + 1) nodes)) i)
           (redirect_at (cond b (None ∷ prunes leaders place nodes) (unstruck_from (is_some (at_leader dp k leaders node)) nodes)) i)) (sym e) (struck i)
       by-test false i e =
           let kept = sifted_nodes dp k t nodes in
           let led = is_some (at_leader dp k leaders node) in
-          subst (λ b. behind n (prunes leaders place (cond (not b) (node ∷ kept) kept)) (redirect_at (cond b (None ∷ sift_redirects dp k t n nodes) (Some (here n) ∷ sift_redirects dp k t (n + 1) nodes)) i)
+          subst (λ b. following n (prunes leaders place (cond (not b) (node ∷ kept) kept)) (redirect_at (cond b (None ∷ sift_redirects dp k t n nodes) (Some (here n) ∷ sift_redirects dp k t (n + 1) nodes)) i)
           (redirect_at (cond b (None ∷ prunes leaders place nodes) (unstruck_from led nodes)) i)) (sym e)
-          (subst (λ l. behind n l (redirect_at (Some (here n) ∷ sift_redirects dp k t (n + 1) nodes) i) (redirect_at (unstruck_from led nodes) i)) (sym (unstruck-is kept e)) (stays led i))
+          (subst (λ l. following n l (redirect_at (Some (here n) ∷ sift_redirects dp k t (n + 1) nodes) i) (redirect_at (unstruck_from led nodes) i)) (sym (unstruck-is kept e)) (stays led i))
 
   follows : (leaders : List Leader) (place n : ℕ) (nodes : List DdNode) (i : ℕ) → Follows leaders place n nodes i
   follows leaders place n [] i = refl
   follows leaders place n (node ∷ nodes) i = by-test leaders place n node nodes (λ ls p m j. follows ls p m nodes j) (is_struck dp k t node) i refl
 
-module _ (firsts seconds wholes : List (Option Redirect)) (h : (i : ℕ) → behind 0 seconds (redirect_at firsts i) (redirect_at wholes i)) where
+module _ (firsts seconds wholes : List (Option Redirect)) (h : (i : ℕ) → following 0 seconds (redirect_at firsts i) (redirect_at wholes i)) where
   arc-by : (arc old : DdArc) (o : Option Redirect) → arc.decision ≡ old.decision → arc.gain ≡ old.gain → arc.longer ≡ old.longer → redirected_by arc o ≡ redirected_by old o
   arc-by arc old None a b c = cc
   arc-by arc old (Some l) a b c = cc
 
-  twice : (arc : DdArc) (first whole : Option Redirect) → behind 0 seconds first whole → redirected seconds (redirected_by arc first) ≡ redirected_by arc whole
+  twice : (arc : DdArc) (first whole : Option Redirect) → following 0 seconds first whole → redirected seconds (redirected_by arc first) ≡ redirected_by arc whole
   twice arc None whole g = sym (ap (redirected_by arc) g)
   twice arc (Some f) whole g =
       let at : f.place ≡ g.place = (let e = g.at in omega arith) in
       let same : arc.longer +ℤ f.longer ≡ arc.longer = (let e = g.longer in omega (arith, ints)) in
       ap (redirected_by (redirected_by arc (Some f))) (ap (redirect_at seconds) at ∙ g.goes) ∙ arc-by (redirected_by arc (Some f)) arc whole refl refl same
 
-  on-target : (target : Option ℕ) → behind 0 seconds (option_and_then (redirect_at firsts) target) (option_and_then (redirect_at wholes) target)
+  on-target : (target : Option ℕ) → following 0 seconds (option_and_then (redirect_at firsts) target) (option_and_then (redirect_at wholes) target)
   on-target None = refl
   on-target (Some i) = h i
 

@@ -31,7 +31,7 @@ module _ (dp : Dp) (k : ℕ) (row : ℕ → List ℤ) (count : ℕ) where
   length-arcs (t ∷ ts) [] h = absurd h
   length-arcs (t ∷ ts) (a ∷ arcs) h = (let rest = length-arcs ts arcs h.1 in omega arith)
 
-  -- each leads to one of so many places
+  -- each leads to one of this many places
   pub arcs-lead : (ts : List Trial) (arcs : List DdArc) → AreArcsOf dp k row count ts arcs → Each (LeadsWithin count) arcs
   arcs-lead [] [] h = tt
   arcs-lead [] (a ∷ arcs) h = absurd h

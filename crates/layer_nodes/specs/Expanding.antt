@@ -58,11 +58,11 @@ abbrev pub trials_of : Dp → ℕ → (ℕ → List ℤ) → List Node → List 
 trials_of dp k held [] = []
 trials_of dp k held (node ∷ nodes) = trials_at dp k held node ++ trials_of dp k held nodes
 
--- a node's arcs are so many from the place on
+-- a node's arcs are this many from the place on
 abbrev pub spanned : ℕ → ℕ → Node → Node
 spanned first count node = record node { first_arc = first; arcs = count }
 
--- the nodes' arcs are those of their trials, one node's behind another's
+-- the nodes' arcs are those of their trials, one node's after another's
 abbrev pub all_spanned : Dp → ℕ → (ℕ → List ℤ) → ℕ → List Node → List Node
 all_spanned dp k held first [] = []
 all_spanned dp k held first (node ∷ nodes) =
@@ -73,7 +73,7 @@ all_spanned dp k held first (node ∷ nodes) =
 abbrev pub arc_to : Dp → ℕ → Trial → ℕ → DdArc
 arc_to dp k t place = record { decision = t.decision; target = Some place; gain = dp.gain k t.state t.decision; longer = pos 0 }
 
--- the arc leads to the place of the way whose row the trial makes, one of so many
+-- the arc leads to the place of the way whose row the trial makes, one of this many
 pub record LeadsToRow (dp : Dp) (k : ℕ) (row : ℕ → List ℤ) (count : ℕ) (t : Trial) (arc : DdArc) : Type 0 where
   pub place : ℕ
   pub is : arc ≡ arc_to dp k t place
@@ -96,11 +96,11 @@ all_exact dp k (t ∷ ts) row = (t.exact || not (row_same (made_by dp k t) row))
 abbrev pub mark_at : List Bool → ℕ → Bool
 mark_at marks i = slice_index_or marks i true
 
--- the marks after one more trial, whose row stands at the place: a new row behind so many, or one of them
+-- the marks after one more trial, whose row stands at the place: a new row after this many, or one of them
 abbrev pub marked : List Bool → ℕ → ℕ → Bool → List Bool
 marked marks count place exact = set marks place (exact && (nat_eq place count || mark_at marks place))
 
--- some trials were made: each has its arc, and each of so many ways its mark
+-- some trials were made: each has its arc, and each of this many ways its mark
 pub record AreTried (dp : Dp) (k : ℕ) (row : ℕ → List ℤ) (count : ℕ) (ts : List Trial) (marks : List Bool) (arcs : List DdArc) : Type 0 where
   pub arcs_are : AreArcsOf dp k row count ts arcs
   pub marks_are : (i : ℕ) → i < count → mark_at marks i ≡ all_exact dp k ts (row i)

@@ -33,7 +33,7 @@ bare_of node = record node { first_arc = 0; arcs = 0 }
 abbrev pub HasArcsIn : List DdArc → Node → Type 0
 HasArcsIn arcs node = node.first_arc + node.arcs ≤ length arcs
 
--- there is room for so many nodes, and the arcs of each are some of the layer's
+-- there is room for this many nodes, and the arcs of each are some of the layer's
 pub record HasLayer (room : ℕ) (nodes : List Node) (nodes_room : ℕ) (arcs : List DdArc) : Type 0 where
   pub small : room + 1 < 2 ^ 32
   pub fits : length nodes ≤ room
@@ -41,12 +41,12 @@ pub record HasLayer (room : ℕ) (nodes : List Node) (nodes_room : ℕ) (arcs : 
   pub few_arcs : length arcs < 2 ^ 32
   pub arcs_lie : Each (HasArcsIn arcs) nodes
 
--- there is room for so many nodes or candidates at most, and for a row of so many cells
+-- there is room for this many nodes or candidates at most, and for a row of this many cells
 pub record Room : Type 0 where
   pub most : ℕ
   pub words : ℕ
 
--- there is memory for so many candidates
+-- there is memory for this many candidates
 pub record HasExpansion (room : ℕ) (table : WayTable) (keys exact places : ℕ) : Type 0 where
   pub table_room : HasTableRoom room table
   pub keys_hold : room ≤ keys

@@ -60,7 +60,7 @@ led_out (Some l) = Some (Some l)
 abbrev pub taken_out : Dp → ℕ → Strikes → List Leader → DdNode → Option (Option Redirect)
 taken_out dp k strikes leaders node = cond (is_struck (asking strikes dp) k (threshold_of strikes) node) (Some None) (led_out (at_leader dp k leaders node))
 
--- the first i nodes were looked at, and those of them that stay are the first ones, so many
+-- the first i nodes were looked at, and those of them that stay are the first ones, this many
 pub record ArePruned (dp : Dp) (k : ℕ) (strikes : Strikes) (row : ℕ → List ℤ) (old : List Node) (leaders : List LeaderAt) (now : List Node) (redirects : List (Option Redirect)) (stay i : ℕ) : Type 0 where
   pub left : drop i now ≡ drop i old
   pub size : length now ≡ length old
@@ -74,7 +74,7 @@ pub record ArePruned (dp : Dp) (k : ℕ) (strikes : Strikes) (row : ℕ → List
   pub targets : (show : Node → DdNode) → Shows row show
       → redirects ++ prune_redirects (asking strikes dp) k (threshold_of strikes) (leaders_of row leaders) stay (map show (drop i old)) ≡ prune_redirects (asking strikes dp) k (threshold_of strikes) [] 0 (map show old)
 
--- the first nodes, so many, are those that stay
+-- the first nodes, this many, are those that stay
 pub record HasPruned (dp : Dp) (k : ℕ) (strikes : Strikes) (row : ℕ → List ℤ) (old now : List Node) (redirects : List (Option Redirect)) (stay : ℕ) : Type 0 where
   pub size : length now ≡ length old
   pub few : stay ≤ length old

@@ -45,7 +45,7 @@ impl Model for Expansion {
 }
 
 impl Expansion {
-    /// Memory for so many candidates, whose rows have so many cells.
+    /// Memory for this many candidates, whose rows have this many cells.
     pub fn prepare(alloc: Global, room: usize, words: usize) -> Result<Expansion, OutOfMemory>
         requires { room + 1 < 2 ^ 32 }
         ensures { IfOk result (λ e. e ≡ record { most = room; words = words }) }

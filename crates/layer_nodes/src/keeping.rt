@@ -19,7 +19,7 @@ use dp_laws::DdArc;
 use layer_candidates::give_rows;
 use row_region::Region;
 
-/// The arc without its target where that is at or behind the width, or none where the arc stays as it is.
+/// The arc without its target where that is at or after the width, or none where the arc stays as it is.
 fn lose_target(arc: DdArc, width: usize) -> Option<DdArc>
     ensures { unwrap_or result arc ≡ kept_arc width arc }
 {
@@ -33,7 +33,7 @@ fn lose_target(arc: DdArc, width: usize) -> Option<DdArc>
     })
 }
 
-/// Arcs whose targets are at or behind the width lose them.
+/// Arcs whose targets are at or after the width lose them.
 fn keep_targets(arcs: &mut [DdArc], width: usize)
     ensures { (layer : List DdNode) → width ≤ length layer → AreRedirected (keep_redirects width layer) arcs.old arcs.new }
 {
@@ -44,7 +44,7 @@ fn keep_targets(arcs: &mut [DdArc], width: usize)
     }
 }
 
-/// Arcs of the layer whose targets are at or behind the width lose them, and nothing else of it changes.
+/// Arcs of the layer whose targets are at or after the width lose them, and nothing else of it changes.
 pub(crate) fn keep_layer_targets(layer: &mut Layer, width: usize)
     requires lengths { Each MayBeLengthened layer.old.nodes }
     ensures nodes { (paths : ℕ → List ℕ) (next : List DdNode) → width ≤ length next → shown_layer paths layer.new.nodes ≡ with_redirected (keep_redirects width next) (shown_layer paths layer.old.nodes) }

@@ -81,7 +81,7 @@ fn list_all(others: &[Node], nodes: &mut Vec<Node>)
 }
 
 impl Layer {
-    /// An empty layer, with room for so many nodes and so many arcs in all, whose rows have so many cells and are to stand in
+    /// An empty layer, with room for this many nodes and this many arcs in all, whose rows have this many cells and are to stand in
     /// the region.
     pub fn prepare(
         alloc: Global,

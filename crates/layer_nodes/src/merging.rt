@@ -19,7 +19,7 @@ ghost use Rattle.layer_nodes.specs.Stored.{rows_in};
 use crate::layer::Layer;
 use crate::leading::redirect_by;
 use crate::node::{Node, lone_node, nodes_from};
-use crate::redirecting::{Redirect, Redirects, redirect_layer_behind};
+use crate::redirecting::{Redirect, Redirects, redirect_layer_after};
 use dp_model::DpModel;
 use layer_candidates::{give_rows, put_row, row_of};
 use row_region::Region;
@@ -210,5 +210,5 @@ pub fn merge_rest<M: DpModel>(
         &mut redirects.all,
     );
     next.held = Snapshot::of(region);
-    redirect_layer_behind(above, width - 1, redirects.all.as_slice());
+    redirect_layer_after(above, width - 1, redirects.all.as_slice());
 }

@@ -40,7 +40,7 @@ fn number(keys: &[Key], places: &mut [u32])
     }
 }
 
-/// Numbers those of so many ways that have keys, by the places of these. The others have no number.
+/// Numbers those of this many ways that have keys, by the places of these. The others have no number.
 fn number_some(keys: &[Key], count: usize, places: &mut [u32])
     requires room { count ≤ length places.old }
     requires within { Each (λ key. key.place < length places.old) keys.now }

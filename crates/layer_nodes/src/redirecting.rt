@@ -63,7 +63,7 @@ impl Model for Redirects {
 }
 
 impl Redirects {
-    /// Memory for so many nodes, whose rows have so many cells.
+    /// Memory for this many nodes, whose rows have this many cells.
     pub fn prepare(alloc: Global, room: usize, words: usize) -> Result<Redirects, OutOfMemory>
         ensures { IfOk result (λ redirects. redirects ≡ record { most = room; words = words }) }
     {
@@ -114,9 +114,9 @@ pub(crate) fn redirect_arcs(arcs: &mut [DdArc], redirects: &[Option<Redirect>])
     }
 }
 
-/// The arc with its new target where its old one stands at `first` or behind it, or none where it keeps it. The redirects are those
+/// The arc with its new target where its old one stands at `first` or after it, or none where it keeps it. The redirects are those
 /// of the places from `first` on.
-fn redirect_behind(arc: DdArc, first: usize, redirects: &[Option<Redirect>]) -> Option<DdArc>
+fn redirect_after(arc: DdArc, first: usize, redirects: &[Option<Redirect>]) -> Option<DdArc>
     requires short { Each IsShort redirects.now }
     ensures { IsRedirected (staying first ++ redirects.now) arc (unwrap_or result arc) }
 {
@@ -138,26 +138,26 @@ pub(crate) fn put_arc(arcs: &mut [DdArc], i: usize, arc: DdArc, new: Option<DdAr
     }
 }
 
-/// The arcs whose targets stand at `first` or behind it get new ones, by the redirects of the places from there on.
-fn redirect_arcs_behind(arcs: &mut [DdArc], first: usize, redirects: &[Option<Redirect>])
+/// The arcs whose targets stand at `first` or after it get new ones, by the redirects of the places from there on.
+fn redirect_arcs_after(arcs: &mut [DdArc], first: usize, redirects: &[Option<Redirect>])
     requires short { Each IsShort redirects.now }
     ensures { AreRedirected (staying first ++ redirects.now) arcs.old arcs.new }
 {
     'arcs: for i in 0..arcs.len() {
         let arc = arcs[i];
-        let new = redirect_behind(arc, first, redirects);
+        let new = redirect_after(arc, first, redirects);
         put_arc(arcs, i, arc, new);
     }
 }
 
-/// The arcs of the layer whose targets stand at `first` or behind it get new ones, and nothing else of it changes.
-pub(crate) fn redirect_layer_behind(layer: &mut Layer, first: usize, redirects: &[Option<Redirect>])
+/// The arcs of the layer whose targets stand at `first` or after it get new ones, and nothing else of it changes.
+pub(crate) fn redirect_layer_after(layer: &mut Layer, first: usize, redirects: &[Option<Redirect>])
     requires short { Each IsShort redirects.now }
     requires lengths { Each MayBeLengthened layer.old.nodes }
     ensures nodes { (paths : ℕ → List ℕ) → shown_layer paths layer.new.nodes ≡ with_redirected (staying first ++ redirects.now) (shown_layer paths layer.old.nodes) }
     ensures rest { KeepsNodes layer.old layer.new }
 {
-    redirect_arcs_behind(layer.arcs.as_mut_slice(), first, redirects);
+    redirect_arcs_after(layer.arcs.as_mut_slice(), first, redirects);
 }
 
 /// The arcs of the layer get new targets, and nothing else of it changes.

@@ -46,9 +46,9 @@ edge_before i j w more = simp append_assoc
 -- the line of an edge is read as that edge
 record ReadsEdge (n : ℕ) (totals : List ℤ) (i j : ℕ) (w : ℤ) (more : List ℕ) (s : TextState) : Type 0 where
   place : Place
-  behind : TextState
-  before : IsBefore more behind
-  is : edge_at n totals s ≡ made_before behind (with_edge n totals i j w place)
+  following : TextState
+  before : IsBefore more following
+  is : edge_at n totals s ≡ made_before following (with_edge n totals i j w place)
 
 reads_edge : (n : ℕ) (totals : List ℤ) (i j : ℕ) (w : ℤ) (more : List ℕ) (s : TextState) → n ≤ 1024 → i < n → j < n → IsWeight w
     → IsBefore (edge_line i j w ++ more) s → ReadsEdge n totals i j w more s
@@ -64,7 +64,7 @@ reads_edge n totals i j w more s few first second weight before =
     let at_j = vertex_read n j t two.value in
     record {
       place = place_of u;
-      behind = after_token u;
+      following = after_token u;
       before = three.before;
       is = rw (at_i, at_j, three.value) refl;
     }
@@ -88,9 +88,9 @@ first_weight n done m i j w place below at weight =
 
 -- what is read from here gives what is read from there
 record Goes (n m : ℕ) (totals : List ℤ) (s : TextState) (left : ℕ) (more_totals : List ℤ) (more : List ℕ) : Type 0 where
-  behind : TextState
-  before : IsBefore more behind
-  is : times (edge_at n) m totals s ≡ times (edge_at n) left more_totals behind
+  following : TextState
+  before : IsBefore more following
+  is : times (edge_at n) m totals s ≡ times (edge_at n) left more_totals following
 
 -- one edge more is read
 times_edge : (n m : ℕ) (totals more : List ℤ) (s t : TextState) → edge_at n totals s ≡ Ok (more, t) → times (edge_at n) (suc m) totals s ≡ times (edge_at n) m more t
@@ -104,18 +104,18 @@ reads_pair : (n : ℕ) (done : List ℤ) (i j : ℕ) (w : ℤ) (m left : ℕ) (m
 reads_pair n done i j w m left more s true none few below short weight at before =
     let same : done ++ pos 0 ∷ zeros m ≡ (done ++ w ∷ []) ++ zeros m = ap (λ z. done ++ z ∷ zeros m) (sym (is_none-true w none)) ∙ sym (append_assoc done (w ∷ []) (zeros m)) in
     record {
-      behind = s;
+      following = s;
       before = before;
       is = ap (λ k. times (edge_at n) k (done ++ pos 0 ∷ zeros m) s) (zero-add left) ∙ ap (λ ds. times (edge_at n) left ds s) same;
     }
 reads_pair n done i j w m left more s false some few below short weight at before =
     let read = reads_edge n (done ++ pos 0 ∷ zeros m) i j w more s few (omega arith) short weight before in
     let one : 1 + left ≡ suc left = omega arith in
-    let edge : edge_at n (done ++ pos 0 ∷ zeros m) s ≡ Ok ((done ++ w ∷ []) ++ zeros m, read.behind) = read.is ∙ ap (made_before read.behind) (first_weight n done m i j w read.place below at weight) in
+    let edge : edge_at n (done ++ pos 0 ∷ zeros m) s ≡ Ok ((done ++ w ∷ []) ++ zeros m, read.following) = read.is ∙ ap (made_before read.following) (first_weight n done m i j w read.place below at weight) in
     record {
-      behind = read.behind;
+      following = read.following;
       before = read.before;
-      is = ap (λ k. times (edge_at n) k (done ++ pos 0 ∷ zeros m) s) one ∙ times_edge n left (done ++ pos 0 ∷ zeros m) ((done ++ w ∷ []) ++ zeros m) s read.behind edge;
+      is = ap (λ k. times (edge_at n) k (done ++ pos 0 ∷ zeros m) s) one ∙ times_edge n left (done ++ pos 0 ∷ zeros m) ((done ++ w ∷ []) ++ zeros m) s read.following edge;
     }
 
 -- the lines of a row are read as its weights, in the place of as many zeros
@@ -123,7 +123,7 @@ reads_row : (n : ℕ) (done : List ℤ) (i j : ℕ) (ws : List ℤ) (r m : ℕ) 
     → length done ≡ row_start n i + (j - (i + 1)) → IsBefore (row_lines i j ws ++ more) s
     → Goes n (edges_in ws + m) (done ++ zeros (length ws + r)) s m ((done ++ ws) ++ zeros r) more
 reads_row n done i j [] r m more s few below short small at before = record {
-  behind = s;
+  following = s;
   before = before;
   is = ap (λ k. times (edge_at n) k (done ++ zeros (0 + r)) s) (zero-add m) ∙ (ap (λ k. times (edge_at n) m (done ++ zeros k) s) (zero-add r) ∙ ap (λ ds. times (edge_at n) m (ds ++ zeros r) s) (sym (append-nil done)));
 }
@@ -133,14 +133,14 @@ reads_row n done i j (w ∷ ws) r m more s few below short small at before =
     let grown : suc (length ws) + r ≡ suc (length ws + r) = omega arith in
     let first = reads_pair n done i j w (length ws + r) (edges_in ws + m) (row_lines i (j + 1) ws ++ more) s (is_none w) refl few below (omega arith) (All-head IsWeight w ws small) at (subst (λ bytes. IsBefore bytes s) joined before) in
     let longer : length (done ++ w ∷ []) ≡ row_start n i + (j + 1 - (i + 1)) = omega (arith, length-append done (w ∷ [])) in
-    let rest = reads_row n (done ++ w ∷ []) i (j + 1) ws r m more first.behind few (omega arith) (omega arith) (All-tail IsWeight w ws small) longer first.before in
+    let rest = reads_row n (done ++ w ∷ []) i (j + 1) ws r m more first.following few (omega arith) (omega arith) (All-tail IsWeight w ws small) longer first.before in
     record {
-      behind = rest.behind;
+      following = rest.following;
       before = rest.before;
       is =
           ap (λ k. times (edge_at n) k (done ++ zeros (suc (length ws) + r)) s) counted
           ∙ (ap (λ k. times (edge_at n) (cond (is_none w) 0 1 + (edges_in ws + m)) (done ++ zeros k) s) grown
-          ∙ (first.is ∙ (rest.is ∙ ap (λ ds. times (edge_at n) m (ds ++ zeros r) rest.behind) (append_assoc done (w ∷ []) ws))));
+          ∙ (first.is ∙ (rest.is ∙ ap (λ ds. times (edge_at n) m (ds ++ zeros r) rest.following) (append_assoc done (w ∷ []) ws))));
     }
 
 edges_in-append : (ws more : List ℤ) → edges_in (ws ++ more) ≡ edges_in ws + edges_in more
@@ -157,9 +157,9 @@ edges_in-most (w ∷ ws) = most_of_pair (is_none w) (edges_in ws) (length ws) (e
 
 -- all lines from a vertex on are read
 record ReadsAll (g : Graph) (k : ℕ) (s : TextState) (more : List ℕ) : Type 0 where
-  behind : TextState
-  before : IsBefore more behind
-  is : times (edge_at g.vertices) (edges_in (weights_from g k)) (take (row_start g.vertices k) g.weights ++ zeros (length (weights_from g k))) s ≡ Ok (g.weights, behind)
+  following : TextState
+  before : IsBefore more following
+  is : times (edge_at g.vertices) (edges_in (weights_from g k)) (take (row_start g.vertices k) g.weights ++ zeros (length (weights_from g k))) s ≡ Ok (g.weights, following)
 
 reads_none : (g : Graph) (k : ℕ) (s : TextState) → weights_from g k ≡ [] → times (edge_at g.vertices) (edges_in (weights_from g k)) (take (row_start g.vertices k) g.weights ++ zeros (length (weights_from g k))) s ≡ Ok (g.weights, s)
 unfolding times until
@@ -171,7 +171,7 @@ reads_rows : (g : Graph) → IsGraph g → (k m : ℕ) (more : List ℕ) (s : Te
 reads_rows g h k zero more s whole before =
     let last : g.vertices ≡ k = omega arith in
     let none : weights_from g k ≡ [] = ap (weights_from g) (sym last) ∙ weights_from-none g h in
-    record { behind = s; before = before; is = reads_none g k s none }
+    record { following = s; before = before; is = reads_none g k s none }
 reads_rows g h k (suc m) more s whole before =
     let n = g.vertices in
     let done = take (row_start n k) g.weights in
@@ -183,18 +183,18 @@ reads_rows g h k (suc m) more s whole before =
     let placed : length done ≡ row_start n k = length-take-le (row_start n k) g.weights (omega arith) in
     let few = h.few in
     let first = reads_row n done k (k + 1) row (length rest) (edges_in rest) (lines_from g (k + 1) m ++ more) s few (omega arith) (omega arith) (All-take IsWeight (n - (k + 1)) (weights_from g k) (All-drop IsWeight (row_start n k) g.weights h.small)) (omega arith) (subst (λ bytes. IsBefore bytes s) joined before) in
-    let later = reads_rows g h (k + 1) m more first.behind (omega arith) first.before in
+    let later = reads_rows g h (k + 1) m more first.following (omega arith) first.before in
     let split = weights_from-split g k in
     let edges : edges_in (weights_from g k) ≡ edges_in row + edges_in rest = ap edges_in (sym split) ∙ edges_in-append row rest in
     let lengths : length (weights_from g k) ≡ length row + length rest = ap length (sym split) ∙ length-append row rest in
     let next : done ++ row ≡ take (row_start n (k + 1)) g.weights = sym (take-add (row_start n k) (n - (k + 1)) g.weights) ∙ ap (λ at. take at g.weights) (sym (row_start-next n k)) in
     record {
-      behind = later.behind;
+      following = later.following;
       before = later.before;
       is =
           ap (λ e. times (edge_at n) e (done ++ zeros (length (weights_from g k))) s) edges
           ∙ (ap (λ z. times (edge_at n) (edges_in row + edges_in rest) (done ++ zeros z) s) lengths
-          ∙ (first.is ∙ (ap (λ ds. times (edge_at n) (edges_in rest) (ds ++ zeros (length rest)) first.behind) next ∙ later.is)));
+          ∙ (first.is ∙ (ap (λ ds. times (edge_at n) (edges_in rest) (ds ++ zeros (length rest)) first.following) next ∙ later.is)));
     }
 
 text_before : (g : Graph) → text_of g ≡ decimal_of (pos g.vertices) ++ 32 ∷ (decimal_of (pos (edges_in g.weights)) ++ 10 ∷ lines_from g 0 g.vertices)
@@ -216,6 +216,6 @@ reads_back g h comment =
     let u = after_token t in
     let all = reads_rows g h 0 n [] u (omega arith) (subst (λ bytes. IsBefore bytes u) (sym (append-nil lines)) two.before) in
     let zeros_all : zeros (pairs_of n) ≡ zeros (length g.weights) = ap zeros (sym h.whole) in
-    let read : times (edge_at n) edges (zeros (pairs_of n)) u ≡ Ok (g.weights, all.behind) = ap (λ zs. times (edge_at n) edges zs u) zeros_all ∙ all.is in
-    let ends = finishes all.behind all.before in
+    let read : times (edge_at n) edges (zeros (pairs_of n)) u ≡ Ok (g.weights, all.following) = ap (λ zs. times (edge_at n) edges zs u) zeros_all ∙ all.is in
+    let ends = finishes all.following all.before in
     rw (one.value, two.value, read, ends) refl

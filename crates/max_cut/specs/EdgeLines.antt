@@ -12,7 +12,7 @@ abbrev pub edges_in : List ℤ → ℕ
 edges_in [] = 0
 edges_in (w ∷ ws) = (if is_none w then 0 else 1) + edges_in ws
 
--- a number and the byte behind it
+-- a number and the byte after it
 abbrev pub spaced : ℕ → List ℕ
 spaced n = decimal_of (pos n) ++ 32 ∷ []
 
@@ -29,7 +29,7 @@ abbrev pub row_lines : ℕ → ℕ → List ℤ → List ℕ
 row_lines i j [] = []
 row_lines i j (w ∷ ws) = (if is_none w then [] else edge_line i j w) ++ row_lines i (j + 1) ws
 
--- the lines of so many vertices from k on
+-- the lines of this many vertices from k on
 abbrev pub lines_from : Graph → ℕ → ℕ → List ℕ
 lines_from g k zero = []
 lines_from g k (suc m) = row_lines k (k + 1) (row_of g k) ++ lines_from g (k + 1) m

@@ -22,8 +22,8 @@ of_vertex (NotAscii p) = of_text (NotAscii p)
 
 -- a vertex, which the text numbers from 1, or its fault
 abbrev pub vertex_from : TextState → Result ℤ TextError → Result (ℕ × TextState) InstanceError
-vertex_from behind (Ok v) = Ok (nat_abs v - 1, behind)
-vertex_from behind (Err e) = Err (of_vertex e)
+vertex_from following (Ok v) = Ok (nat_abs v - 1, following)
+vertex_from following (Err e) = Err (of_vertex e)
 
 -- the next token as one of n vertices
 unfoldable pub vertex_at : ℕ → TextState → Result (ℕ × TextState) InstanceError
@@ -45,20 +45,20 @@ with_edge n totals i j w place =
     if i == j then Ok totals
     else within_limit totals (place_among n i j) (slice_index_or totals (place_among n i j) (pos 0) +ℤ w) place
 
--- what was made, and where reading stands behind it
+-- what was made, and where reading stands after it
 abbrev pub made_before : TextState → Result (List ℤ) InstanceError → Result (List ℤ × TextState) InstanceError
-made_before behind (Ok totals) = Ok (totals, behind)
-made_before behind (Err e) = Err e
+made_before following (Ok totals) = Ok (totals, following)
+made_before following (Err e) = Err e
 
 -- the totals after the next edge
 unfoldable pub edge_at : ℕ → List ℤ → TextState → Result (List ℤ × TextState) InstanceError
 edge_at n totals s =
     part_then (vertex_at n s) (λ i t.
     part_then (vertex_at n t) (λ j u.
-    number_then (negsuc 499999999) (pos 500000000) u (λ w behind.
-    made_before behind (with_edge n totals i j w (place_of u)))))
+    number_then (negsuc 499999999) (pos 500000000) u (λ w following.
+    made_before following (with_edge n totals i j w (place_of u)))))
 
--- a graph: 0 to 1,024 vertices, 0 to 2^20 edges, so many edges, and the end of the text
+-- a graph: 0 to 1,024 vertices, 0 to 2^20 edges, this many edges, and the end of the text
 unfoldable pub instance_at : TextState → Result Graph InstanceError
 instance_at s =
     number_then (pos 0) (pos 1024) s (λ n t.

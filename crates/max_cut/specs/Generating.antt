@@ -12,12 +12,12 @@ abbrev pub weight_drawn : ℕ → ℤ
 weight_drawn x = if makes_edge x then pos (drawn (next x) % 21) -ℤ pos 10 else pos 0
 
 -- the draws that it leaves
-abbrev pub behind_weight : ℕ → ℕ
-behind_weight x = if makes_edge x then next (next x) else next x
+abbrev pub after_weight : ℕ → ℕ
+after_weight x = if makes_edge x then next (next x) else next x
 
 -- the weights with one more
 abbrev pub with_weight : List ℤ → ℕ → List ℤ × ℕ
-with_weight weights x = (weights ++ weight_drawn x ∷ [], behind_weight x)
+with_weight weights x = (weights ++ weight_drawn x ∷ [], after_weight x)
 
 -- the graph of n vertices from a seed
 abbrev pub generated : ℕ → ℕ → Graph

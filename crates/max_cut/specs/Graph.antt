@@ -9,7 +9,7 @@ pub record Graph : Type 0 where
   pub vertices : ℕ
   pub weights : List ℤ
 
--- how many pairs so many vertices make
+-- how many pairs this many vertices make
 abbrev pub pairs_of : ℕ → ℕ
 pairs_of zero = 0
 pairs_of (suc n) = n + pairs_of n

@@ -8,7 +8,7 @@ use Rattle.pair_rows.specs.Instance.{Instance, no_unit}
 use Rattle.pair_rows.specs.Program.{program_of as program_of_rows}
 use Rattle.max_cut.specs.Graph.{Graph, instance_of, negatives_of}
 
--- so many zeros
+-- this many zeros
 abbrev pub zeros : ℕ → List ℤ
 zeros n = replicate n (pos 0)
 

@@ -14,7 +14,7 @@ use tokens::{InstanceError, InstanceFault, Place, ReadModelError, TextError, Tok
 
 const GREATEST_WEIGHT: i64 = 500_000_000;
 
-/// How many pairs so many vertices make.
+/// How many pairs this many vertices make.
 pub(crate) fn count_of_pairs(vertices: usize) -> usize
     requires { vertices ≤ 1024 }
     ensures { result ≡ pairs_of vertices }
@@ -26,7 +26,7 @@ pub(crate) fn count_of_pairs(vertices: usize) -> usize
     }
 }
 
-/// Reads so many edges, and adds up the weights of each pair.
+/// Reads this many edges, and adds up the weights of each pair.
 pub(crate) fn read_totals(
     alloc: Global,
     tokens: &mut Tokens<'_>,
@@ -42,7 +42,7 @@ pub(crate) fn read_totals(
     Ok(totals)
 }
 
-/// Reads so many edges, and adds their weights to the totals of their pairs.
+/// Reads this many edges, and adds their weights to the totals of their pairs.
 #[tactic(auto, using(tokens::proofs::Chains::times_steps))]
 fn read_edges(
     tokens: &mut Tokens<'_>,

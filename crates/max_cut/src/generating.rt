@@ -2,7 +2,7 @@
 
 ghost use Rattle.std.specs.Prelude.{◌≡◌, ◌<◌, ◌≤◌, ◌^◌, IfOk};
 ghost use Rattle.max_cut.specs.Graph.{IsWeight};
-ghost use Rattle.max_cut.specs.Generating.{weight_drawn, behind_weight, generated};
+ghost use Rattle.max_cut.specs.Generating.{weight_drawn, after_weight, generated};
 ghost use Rattle.max_cut.specs.Shown.{instance_in};
 
 use crate::edges::count_of_pairs;
@@ -13,7 +13,7 @@ use std::alloc::{AllocError, Global};
 /// Draws the weight of a pair: one draw in four makes an edge, whose weight is from -10 to 10, and without an edge it is 0.
 fn draw_weight(draws: &mut Draws) -> i64
     ensures weight { result ≡ weight_drawn draws.old }
-    ensures behind { draws.new ≡ behind_weight draws.old }
+    ensures following { draws.new ≡ after_weight draws.old }
     ensures small { IsWeight result }
 {
     if draws.draw() % 4 == 0 {

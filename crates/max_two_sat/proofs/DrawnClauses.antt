@@ -8,7 +8,7 @@ use Rattle.max_two_sat.specs.declared.header.Header.{Header}
 use Rattle.max_two_sat.specs.declared.header.Form.TheVariants.{Weighted}
 use Rattle.max_two_sat.specs.Clauses.{FitsLiterals, Gathered, gathered_with, nothing_gathered}
 use Rattle.max_two_sat.specs.Room.{HasClauseRoom}
-use Rattle.max_two_sat.specs.Generating.{IsDrawing, behind_clause, clause_drawn, with_clause_drawn}
+use Rattle.max_two_sat.specs.Generating.{IsDrawing, after_clause, clause_drawn, with_clause_drawn}
 use Rattle.max_two_sat.proofs.Gathering.{clause-fits, total-low, way-begins}
 
 abbrev header : ℕ → Header
@@ -33,7 +33,7 @@ fits n g w literals d few light here =
     let f = clause-fits (header n) g (pos w) literals d.under_way (omega arith) (omega (arith, ints), next) here in
     record { room = f.room; total = f.total; low = low; after = record { under_way = f.after; light = omega (arith, ints) } }
 
--- the same behind the clause, whose weight is a word of 64 bits
+-- the same after the clause, whose weight is a word of 64 bits
 pub drawn_after : (n : ℕ) (g more : Gathered) (z : ℤ) (r : ℕ) (literals : Literals) → IsDrawing n g → g.clauses < 3072 → z ≡ pos (1 + r % 10) → FitsLiterals n literals
     → more ≡ gathered_with g (to_z w64 (of_z w64 z)) literals → IsDrawing n more
 drawn_after n g more z r literals d few from here is =
@@ -41,7 +41,7 @@ drawn_after n g more z r literals d few from here is =
     let same : to_z w64 (of_z w64 z) ≡ pos (1 + r % 10) = round_trip z (grind (arith, ints)) (grind (arith, ints)) ∙ from in
     subst (IsDrawing n) (sym (is ∙ ap (λ w. gathered_with g w literals) same)) (fits n g (1 + r % 10) literals d few light here).after
 
--- so many clauses are drawn from the seed, and these draws are left
+-- this many clauses are drawn from the seed, and these draws are left
 pub record AreDrawn (n seed k x : ℕ) (g : Gathered) : Type 0 where
   pub drawn : steps (with_clause_drawn n) k (nothing_gathered n) seed ≡ (g, x)
   pub drawing : IsDrawing n g
@@ -54,10 +54,10 @@ none_drawn n seed x g few from none = record {
   count = ap (λ g. g.clauses) none;
 }
 
-pub one_more : (n seed k x y : ℕ) (g more : Gathered) → AreDrawn n seed k x g → more ≡ clause_drawn n g x → y ≡ behind_clause x → IsDrawing n more → more.clauses ≡ g.clauses + 1
+pub one_more : (n seed k x y : ℕ) (g more : Gathered) → AreDrawn n seed k x g → more ≡ clause_drawn n g x → y ≡ after_clause x → IsDrawing n more → more.clauses ≡ g.clauses + 1
     → AreDrawn n seed (k + 1) y more
-one_more n seed k x y g more d is behind drawing counted = record {
-  drawn = steps_more (with_clause_drawn n) k (nothing_gathered n) g more seed x y d.drawn (λ i. (sym is i, sym behind i));
+one_more n seed k x y g more d is following drawing counted = record {
+  drawn = steps_more (with_clause_drawn n) k (nothing_gathered n) g more seed x y d.drawn (λ i. (sym is i, sym following i));
   drawing = drawing;
   count = let c = d.count in omega (arith, counted);
 }

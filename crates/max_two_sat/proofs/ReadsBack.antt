@@ -10,7 +10,7 @@ use Rattle.tokens.specs.Grammar.{times}
 use Rattle.tokens.specs.Printed.{IsBefore, ReadsPart}
 use Rattle.tokens.specs.declared.comment.Comment.TheVariants.{LetterC}
 use Rattle.tokens.specs.declared.instance_error.InstanceError.{InstanceError}
-use Rattle.tokens.proofs.Printing.{before_start, before_behind, passes_natural, reads_natural, reads_word, no_token_before, ends_line_LF}
+use Rattle.tokens.proofs.Printing.{before_start, before_after, passes_natural, reads_natural, reads_word, no_token_before, ends_line_LF}
 use Rattle.tokens.proofs.Repeats.{times_reads}
 use Rattle.max_two_sat.specs.Clauses.{Gathered, gathered_with, nothing_gathered}
 use Rattle.max_two_sat.specs.Instance.{Instance}
@@ -56,25 +56,25 @@ reads_back i kept =
     let xs : List Clause = clauses_of i in
     let lines : List ℕ = flat_map line_of xs in
     let s : TextState = text_start LetterC (text_of i) in
-    let behind_m : List ℕ = decimal_of (pos m) ++ (10 ∷ lines) in
-    let behind_n : List ℕ = decimal_of (pos n) ++ (32 ∷ behind_m) in
-    let whole : text_of i ≡ 112 ∷ 32 ∷ 119 ∷ 99 ∷ 110 ∷ 102 ∷ 32 ∷ behind_n = simp append_assoc in
-    let p = reads_word 112 [] 32 (119 ∷ 99 ∷ 110 ∷ 102 ∷ 32 ∷ behind_n) s refl (omega arith) refl refl (subst (λ (bytes : List ℕ). IsBefore bytes s) whole (before_start LetterC (text_of i))) in
+    let after_m : List ℕ = decimal_of (pos m) ++ (10 ∷ lines) in
+    let after_n : List ℕ = decimal_of (pos n) ++ (32 ∷ after_m) in
+    let whole : text_of i ≡ 112 ∷ 32 ∷ 119 ∷ 99 ∷ 110 ∷ 102 ∷ 32 ∷ after_n = simp append_assoc in
+    let p = reads_word 112 [] 32 (119 ∷ 99 ∷ 110 ∷ 102 ∷ 32 ∷ after_n) s refl (omega arith) refl refl (subst (λ (bytes : List ℕ). IsBefore bytes s) whole (before_start LetterC (text_of i))) in
     let t : TextState = after_token s in
-    let form = reads_word 119 (99 ∷ 110 ∷ 102 ∷ []) 32 behind_n t refl (omega arith) (subst (λ (c : Comment). opens_comment c 119 ≡ false) (sym p.comment_is) refl) refl
-    (before_behind 32 (119 ∷ 99 ∷ 110 ∷ 102 ∷ 32 ∷ behind_n) t refl p.rest_is) in
+    let form = reads_word 119 (99 ∷ 110 ∷ 102 ∷ []) 32 after_n t refl (omega arith) (subst (λ (c : Comment). opens_comment c 119 ≡ false) (sym p.comment_is) refl) refl
+    (before_after 32 (119 ∷ 99 ∷ 110 ∷ 102 ∷ 32 ∷ after_n) t refl p.rest_is) in
     let u : TextState = after_token t in
-    let variables = passes_natural n 0 1024 32 behind_m u (omega arith) kept.variables (omega arith) refl (before_behind 32 behind_n u refl form.rest_is) in
+    let variables = passes_natural n 0 1024 32 after_m u (omega arith) kept.variables (omega arith) refl (before_after 32 after_n u refl form.rest_is) in
     let v : TextState = after_token u in
     let count = reads_natural m 0 (2 ^ 20) 10 lines v (omega arith) kept.lines (omega arith) refl variables.before in
     let w : TextState = after_token v in
     let ends = ends_line_LF lines w count.rest_is in
     let there = clauses-stand i kept in
     let ready : Ready n (nothing_gathered n) xs = record { stand = there.stand; low = omega (arith, ints); most = omega (arith, ints, there.weight, kept.total) } in
-    let ahead : IsBefore (lines ++ []) w = subst (λ (bytes : List ℕ). IsBefore bytes w) (sym (append-nil lines)) (before_behind 10 lines w refl count.rest_is) in
+    let ahead : IsBefore (lines ++ []) w = subst (λ (bytes : List ℕ). IsBefore bytes w) (sym (append-nil lines)) (before_after 10 lines w refl count.rest_is) in
     let clauses = reads_clauses n m xs w kept.variables ready ahead in
-    let read : times (clause_at (header_of n m)) m (nothing_gathered n) w ≡ Ok (fold gather (nothing_gathered n) xs, clauses.behind) =
+    let read : times (clause_at (header_of n m)) m (nothing_gathered n) w ≡ Ok (fold gather (nothing_gathered n) xs, clauses.following) =
     ap (λ k. times (clause_at (header_of n m)) k (nothing_gathered n) w) (sym there.many) ∙ clauses.read in
-    let over : ends_clauses clauses.behind ≡ true = ap ends_token (no_token_before clauses.behind clauses.before) in
+    let over : ends_clauses clauses.following ≡ true = ap ends_token (no_token_before clauses.following clauses.before) in
     rw (p.value, form.value, variables.value, count.value, ends, read, over)
     (ap (λ (j : Instance). let r : Result Instance InstanceError = Ok j in r) (gathered-instance xs (nothing_gathered n) ∙ clauses-added i kept))

@@ -18,7 +18,7 @@ use Rattle.max_two_sat.specs.declared.header.Form.TheVariants.{Weighted}
 use Rattle.max_two_sat.specs.Clauses.{Gathered, gathered_with}
 use Rattle.max_two_sat.specs.Lines.{Clause}
 use Rattle.max_two_sat.specs.Printed.{line_of, literal_text, literals_text, number_of_literal}
-use Rattle.max_two_sat.specs.Texts.{clause_at, ends_clauses, ends_token, literal_at, literal_of, literals_at, behind_first, end_of_clause, weight_at}
+use Rattle.max_two_sat.specs.Texts.{clause_at, ends_clauses, ends_token, literal_at, literal_of, literals_at, following_first, end_of_clause, weight_at}
 
 -- a literal is read from its number
 literal_of-number : (a : Literal) → literal_of (number_of_literal a) ≡ Some a
@@ -46,7 +46,7 @@ literal-size n a few fits =
     let sizes = number-size (number_of_literal a) n a.variable a.positive few fits (ap (λ (m : ℕ). cond a.positive (pos m) (neg_ℤ (pos m))) one) in
     record { small = omega (arith, sizes.0); digits = omega (arith, sizes.0); low = sizes.1.0; high = sizes.1.1 }
 
--- a printed literal is read, and so is the blank behind it
+-- a printed literal is read, and so is the blank after it
 record ReadsLiteral (n : ℕ) (read : Option Literal) (more : List ℕ) (s : TextState) : Type 0 where
   value : literal_at n s ≡ Ok (read, after_token s)
   before : IsBefore more (after_token s)
@@ -88,21 +88,21 @@ number-goes-on : (least greatest z : ℤ) (s : TextState) → number_at least gr
 unfolding number_at
 number-goes-on least greatest z s e = goes-on least greatest z (place_of s) (token s) e
 
--- printed literals and the zero behind them are read to the line's end
+-- printed literals and the zero after them are read to the line's end
 record ReadsLiterals (n : ℕ) (literals : Literals) (tail : List ℕ) (s : TextState) : Type 0 where
-  behind : TextState
-  read : literals_at n s ≡ Ok (literals, behind)
-  before : IsBefore tail behind
-  comment_is : behind.comment ≡ s.comment
+  following : TextState
+  read : literals_at n s ≡ Ok (literals, following)
+  before : IsBefore tail following
+  comment_is : following.comment ≡ s.comment
 
 reads_one : (n : ℕ) (a : Literal) (tail : List ℕ) (s : TextState) → n ≤ 1024 → a.variable < n →
     IsBefore (decimal_of (number_of_literal a) ++ (32 ∷ 48 ∷ 10 ∷ tail)) s → ReadsLiterals n (One a) tail s
-unfolding literals_at behind_first
+unfolding literals_at following_first
 reads_one n a tail s few fits before =
     let one = reads_literal n a 32 (48 ∷ 10 ∷ tail) s few fits refl before in
     let last = reads_zero n tail (after_token s) one.before in
     record {
-      behind = after_token (after_token s);
+      following = after_token (after_token s);
       read = rw (one.value, last.value) refl;
       before = last.before;
       comment_is = last.comment_is ∙ one.comment_is;
@@ -110,7 +110,7 @@ reads_one n a tail s few fits before =
 
 reads_two : (n : ℕ) (a b : Literal) (tail : List ℕ) (s : TextState) → n ≤ 1024 → a.variable < n → b.variable < n →
     IsBefore (decimal_of (number_of_literal a) ++ (32 ∷ (decimal_of (number_of_literal b) ++ (32 ∷ 48 ∷ 10 ∷ tail)))) s → ReadsLiterals n (Two a b) tail s
-unfolding literals_at behind_first end_of_clause
+unfolding literals_at following_first end_of_clause
 reads_two n a b tail s few first second before =
     let t : TextState = after_token s in
     let u : TextState = after_token t in
@@ -118,7 +118,7 @@ reads_two n a b tail s few first second before =
     let two = reads_literal n b 32 (48 ∷ 10 ∷ tail) t few second refl one.before in
     let last = reads_zero n tail u two.before in
     record {
-      behind = after_token u;
+      following = after_token u;
       read = rw (one.value, two.value, last.value) refl;
       before = last.before;
       comment_is = last.comment_is ∙ (two.comment_is ∙ one.comment_is);
@@ -134,19 +134,19 @@ pub record ClauseStands (n : ℕ) (x : Clause) : Type 0 where
   pub low : pos 0 ≤ℤ x.weight
   pub literals : LiteralsStand n x.literals
 
--- the literals with the zero, behind the first blank
-abbrev literals_behind : Literals → List ℕ → List ℕ
-literals_behind Empty tail = []
-literals_behind (One a) tail = decimal_of (number_of_literal a) ++ (32 ∷ 48 ∷ 10 ∷ tail)
-literals_behind (Two a b) tail = decimal_of (number_of_literal a) ++ (32 ∷ (decimal_of (number_of_literal b) ++ (32 ∷ 48 ∷ 10 ∷ tail)))
+-- the literals with the zero, after the first blank
+abbrev literals_after : Literals → List ℕ → List ℕ
+literals_after Empty tail = []
+literals_after (One a) tail = decimal_of (number_of_literal a) ++ (32 ∷ 48 ∷ 10 ∷ tail)
+literals_after (Two a b) tail = decimal_of (number_of_literal a) ++ (32 ∷ (decimal_of (number_of_literal b) ++ (32 ∷ 48 ∷ 10 ∷ tail)))
 
-literals-ahead : (n : ℕ) (literals : Literals) (tail : List ℕ) → LiteralsStand n literals → literals_text literals ++ (32 ∷ 48 ∷ 10 ∷ tail) ≡ 32 ∷ literals_behind literals tail
+literals-ahead : (n : ℕ) (literals : Literals) (tail : List ℕ) → LiteralsStand n literals → literals_text literals ++ (32 ∷ 48 ∷ 10 ∷ tail) ≡ 32 ∷ literals_after literals tail
 literals-ahead n Empty tail h = absurd h
 literals-ahead n (One a) tail h = refl
 literals-ahead n (Two a b) tail h = ap (λ (bytes : List ℕ). 32 ∷ bytes) (append_assoc (decimal_of (number_of_literal a)) (literal_text b) (32 ∷ 48 ∷ 10 ∷ tail))
 
 reads_literals : (n : ℕ) (literals : Literals) (tail : List ℕ) (s : TextState) → n ≤ 1024 → LiteralsStand n literals →
-    IsBefore (literals_behind literals tail) s → ReadsLiterals n literals tail s
+    IsBefore (literals_after literals tail) s → ReadsLiterals n literals tail s
 reads_literals n Empty tail s few h before = absurd h
 reads_literals n (One a) tail s few h before = reads_one n a tail s few h before
 reads_literals n (Two a b) tail s few h before = reads_two n a b tail s few h.0 h.1 before
@@ -163,14 +163,14 @@ pub reads_clause : (n m : ℕ) (x : Clause) (made : Gathered) (tail : List ℕ) 
     IsBefore (line_of x ++ tail) s → ReadsPart (clause_at (header_of n m)) made (gathered_with made x.weight x.literals) tail s
 unfolding clause_at weight_at
 reads_clause n m x made tail s few stands low most before =
-    let more : List ℕ = literals_behind x.literals tail in
+    let more : List ℕ = literals_after x.literals tail in
     let line : line_of x ++ tail ≡ decimal_of x.weight ++ (32 ∷ more) = line_before x tail ∙ ap (λ (bytes : List ℕ). decimal_of x.weight ++ bytes) (literals-ahead n x.literals tail stands.literals) in
     let weight = passes_number x.weight (pos 0) (pos (2 ^ 48)) 32 more s (omega (arith, ints, stands.low)) stands.low (omega (arith, ints)) refl (subst (λ (bytes : List ℕ). IsBefore bytes s) line before) in
     let t : TextState = after_token s in
     let starts : ends_clauses s ≡ false = number-goes-on (pos 0) (pos (2 ^ 48)) x.weight s weight.value in
     let literals = reads_literals n x.literals tail t few stands.literals weight.before in
     record {
-      behind = literals.behind;
+      following = literals.following;
       read = rw (starts, weight.value, int_lt-fails (pos (2 ^ 48)) (made.total +ℤ x.weight) most, literals.read) refl;
       before = literals.before;
       comment_is = literals.comment_is ∙ weight.comment_is;

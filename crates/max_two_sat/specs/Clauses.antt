@@ -8,7 +8,7 @@ use Rattle.max_two_sat.specs.declared.weights.PairWeights.{PairWeights}
 use Rattle.max_two_sat.specs.Instance.{Instance, no_pair, no_unit}
 use Rattle.pair_rows.specs.Pairs.{pair_count, entries_before}
 
--- an instance of so many variables without clauses
+-- an instance of this many variables without clauses
 abbrev pub empty_instance : ℕ → Instance
 empty_instance n = record { tautologies = pos 0; units = replicate n no_unit; pairs = replicate (pair_count n) no_pair }
 

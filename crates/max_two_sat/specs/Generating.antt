@@ -13,21 +13,21 @@ abbrev pub literal_drawn : ℕ → ℕ → Literal
 literal_drawn n x = record { variable = drawn x % n; positive = drawn (next x) % 2 == 0 }
 
 -- the draws that it leaves
-abbrev pub behind_literal : ℕ → ℕ
-behind_literal x = next (next x)
+abbrev pub after_literal : ℕ → ℕ
+after_literal x = next (next x)
 
 -- what is gathered with a clause more, by five draws: two literals, and a weight from 1 to 10
 abbrev pub clause_drawn : ℕ → Gathered → ℕ → Gathered
 clause_drawn n g x =
-    let second = behind_literal x in
-    gathered_with g (pos (1 + drawn (behind_literal second) % 10)) (Two (literal_drawn n x) (literal_drawn n second))
+    let second = after_literal x in
+    gathered_with g (pos (1 + drawn (after_literal second) % 10)) (Two (literal_drawn n x) (literal_drawn n second))
 
 -- the draws that it leaves
-abbrev pub behind_clause : ℕ → ℕ
-behind_clause x = next (behind_literal (behind_literal x))
+abbrev pub after_clause : ℕ → ℕ
+after_clause x = next (after_literal (after_literal x))
 
 abbrev pub with_clause_drawn : ℕ → Gathered → ℕ → Gathered × ℕ
-with_clause_drawn n g x = (clause_drawn n g x, behind_clause x)
+with_clause_drawn n g x = (clause_drawn n g x, after_clause x)
 
 -- the instance of n variables and 3 n clauses from a seed
 abbrev pub generated : ℕ → ℕ → Instance

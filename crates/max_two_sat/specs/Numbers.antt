@@ -23,16 +23,16 @@ units_in (suc n) [] = []
 units_in (suc n) (p ∷ []) = []
 units_in (suc n) (p ∷ q ∷ xs) = record { positive = p; negative = q } ∷ units_in n xs
 
-abbrev pub behind_units : ℕ → List ℤ → List ℤ
-behind_units zero xs = xs
-behind_units (suc n) [] = []
-behind_units (suc n) (p ∷ []) = []
-behind_units (suc n) (p ∷ q ∷ xs) = behind_units n xs
+abbrev pub after_units : ℕ → List ℤ → List ℤ
+after_units zero xs = xs
+after_units (suc n) [] = []
+after_units (suc n) (p ∷ []) = []
+after_units (suc n) (p ∷ q ∷ xs) = after_units n xs
 
 abbrev pub pairs_in : List ℤ → List PairWeights
 pairs_in (a ∷ b ∷ c ∷ d ∷ xs) = record { both = a; first = b; second = c; neither = d } ∷ pairs_in xs
 pairs_in _ = []
 
 unfoldable pub instance_of : List ℤ → Instance
-instance_of (n ∷ t ∷ xs) = record { tautologies = t; units = units_in (unsigned_abs n) xs; pairs = pairs_in (behind_units (unsigned_abs n) xs) }
+instance_of (n ∷ t ∷ xs) = record { tautologies = t; units = units_in (unsigned_abs n) xs; pairs = pairs_in (after_units (unsigned_abs n) xs) }
 instance_of _ = record { tautologies = pos 0; units = []; pairs = [] }

@@ -37,7 +37,7 @@ abbrev pub FormKeeps : Form → Gathered → Type 0
 FormKeeps Plain g = g.total ≡ pos g.clauses
 FormKeeps (Weighted top) g = Unit {0}
 
--- the weight of a clause behind clauses of this total weight
+-- the weight of a clause after clauses of this total weight
 abbrev pub FormGives : Form → ℤ → ℤ → Type 0
 FormGives Plain total weight = weight ≡ pos 1
 FormGives (Weighted top) total weight = (pos 0 ≤ℤ weight) × ((total +ℤ weight) ≤ℤ pos (2 ^ 48))
@@ -47,7 +47,7 @@ abbrev pub FitsOption : ℕ → Option Literal → Type 0
 FitsOption n None = Unit {0}
 FitsOption n (Some a) = FitsLiteral n a
 
--- clauses are read behind this first line, and so much is gathered of them
+-- clauses are read after this first line, and so much is gathered of them
 pub record IsGathering (h : Header) (g : Gathered) : Type 0 where
   pub gathered : IsGathered g
   pub form : FormKeeps h.form g

@@ -22,7 +22,7 @@ fault_at fault s = Err (record { fault = fault; place = place_of s })
 abbrev pub is_word : List ℕ → List ℕ → Bool
 is_word word wanted = (length word == length wanted) && starts_with nat_eq word wanted
 
--- the first line: p, then wcnf where clauses have weights or cnf where they have none, the variables, the clauses, and behind wcnf perhaps a top weight
+-- the first line: p, then wcnf where clauses have weights or cnf where they have none, the variables, the clauses, and after wcnf perhaps a top weight
 
 unfoldable pub letter_at : TextState → Result (Bool × TextState) InstanceError
 letter_at s = word_then s (λ w t. if is_word w (codes "p") then Ok (true, t) else fault_at Word s)
@@ -54,7 +54,7 @@ ends_token (b ∷ bs) = b == 37
 abbrev pub ends_clauses : TextState → Bool
 ends_clauses s = ends_token (token s)
 
--- the weight of a clause behind clauses of this total weight: 1 where clauses have none
+-- the weight of a clause after clauses of this total weight: 1 where clauses have none
 
 abbrev pub reaches : Option ℤ → ℤ → Bool
 reaches None weight = false
@@ -78,24 +78,24 @@ literal_at n s = number_then (neg_ℤ (pos n)) (pos n) s (λ z t. Ok (literal_of
 -- at most two literals and a zero
 
 abbrev pub no_literal : TextState → TextState → Option Literal → Result (Bool × TextState) InstanceError
-no_literal third behind None = Ok (true, behind)
-no_literal third behind (Some c) = fault_at ThreeLiterals third
+no_literal third following None = Ok (true, following)
+no_literal third following (Some c) = fault_at ThreeLiterals third
 
--- the zero behind two literals
+-- the zero after two literals
 unfoldable pub end_of_clause : ℕ → TextState → Result (Bool × TextState) InstanceError
 end_of_clause n s = part_then (literal_at n s) (λ third t. no_literal s t third)
 
 abbrev pub second_literal : ℕ → Literal → TextState → Option Literal → Result (Literals × TextState) InstanceError
-second_literal n a behind None = Ok (One a, behind)
-second_literal n a behind (Some b) = part_then (end_of_clause n behind) (λ _ t. Ok (Two a b, t))
+second_literal n a following None = Ok (One a, following)
+second_literal n a following (Some b) = part_then (end_of_clause n following) (λ _ t. Ok (Two a b, t))
 
--- what stands behind the first literal
-unfoldable pub behind_first : ℕ → Literal → TextState → Result (Literals × TextState) InstanceError
-behind_first n a s = part_then (literal_at n s) (λ second t. second_literal n a t second)
+-- what stands after the first literal
+unfoldable pub following_first : ℕ → Literal → TextState → Result (Literals × TextState) InstanceError
+following_first n a s = part_then (literal_at n s) (λ second t. second_literal n a t second)
 
 abbrev pub first_literal : ℕ → TextState → Option Literal → Result (Literals × TextState) InstanceError
-first_literal n behind None = Ok (Empty, behind)
-first_literal n behind (Some a) = behind_first n a behind
+first_literal n following None = Ok (Empty, following)
+first_literal n following (Some a) = following_first n a following
 
 unfoldable pub literals_at : ℕ → TextState → Result (Literals × TextState) InstanceError
 literals_at n s = part_then (literal_at n s) (λ first t. first_literal n t first)

@@ -24,7 +24,7 @@ pub(crate) struct Draft {
 }
 
 impl Draft {
-    /// An instance of so many variables, without clauses.
+    /// An instance of this many variables, without clauses.
     pub(crate) fn new(alloc: Global, variables: usize) -> Result<Draft, AllocError>
         requires { variables ≤ 1024 }
         ensures { IfOk result (λ d. gathered_in d ≡ nothing_gathered variables) }
@@ -158,7 +158,7 @@ fn pair_with(pair: PairWeights, first: bool, second: bool, weight: i64) -> PairW
     heavier
 }
 
-/// How many pairs so many variables have.
+/// How many pairs this many variables have.
 fn pairs_of(variables: usize) -> usize
     requires { variables ≤ 1024 }
     ensures { result ≡ pair_count variables }

@@ -3,7 +3,7 @@
 ghost use Rattle.std.specs.Prelude.{◌≡◌, ◌<◌, ◌≤◌, ◌^◌, ◌+◌, IfOk};
 ghost use Rattle.max_two_sat.specs.Clauses.{FitsLiteral};
 ghost use Rattle.max_two_sat.specs.Drafted.{gathered_in};
-ghost use Rattle.max_two_sat.specs.Generating.{literal_drawn, behind_literal, clause_drawn, behind_clause, IsDrawing, generated};
+ghost use Rattle.max_two_sat.specs.Generating.{literal_drawn, after_literal, clause_drawn, after_clause, IsDrawing, generated};
 ghost use Rattle.max_two_sat.specs.Shown.{instance_in};
 
 use crate::clause::{Literal, Literals};
@@ -16,7 +16,7 @@ use std::alloc::{AllocError, Global};
 fn draw_literal(draws: &mut Draws, variables: u32) -> Literal
     requires { 0 < variables }
     ensures literal { result ≡ literal_drawn variables draws.old }
-    ensures behind { draws.new ≡ behind_literal draws.old }
+    ensures following { draws.new ≡ after_literal draws.old }
     ensures fits { FitsLiteral variables result }
 {
     let variable = draws.draw() % variables;
@@ -33,7 +33,7 @@ fn draw_clause(draws: &mut Draws, variables: u32, draft: &mut Draft)
     requires drawing { IsDrawing variables (gathered_in draft.old) }
     requires few { draft.old.clauses < 3072 }
     ensures clause { gathered_in draft.new ≡ clause_drawn variables (gathered_in draft.old) draws.old }
-    ensures behind { draws.new ≡ behind_clause draws.old }
+    ensures following { draws.new ≡ after_clause draws.old }
     ensures drawing { IsDrawing variables (gathered_in draft.new) }
     ensures count { draft.new.clauses ≡ draft.old.clauses + 1 }
 {

@@ -16,11 +16,11 @@ use tokens::{Comment, InstanceFault, ReadModelError, Tokens};
 
 /// Reads an instance. Lines that begin with `c` are comments.
 ///
-/// The first line is `p cnf V C` or `p wcnf V C`, with 0 to 1,024 variables and 0 to `2^20` clauses; behind `wcnf` a top weight may
-/// stand on the same line. Another word is `Word`. A clause is at most two literals and 0; behind `wcnf` a weight from 0 to `2^48`
+/// The first line is `p cnf V C` or `p wcnf V C`, with 0 to 1,024 variables and 0 to `2^20` clauses; after `wcnf` a top weight may
+/// stand on the same line. Another word is `Word`. A clause is at most two literals and 0; after `wcnf` a weight from 0 to `2^48`
 /// stands before them. A third literal is `ThreeLiterals`; a weight that reaches the top is `Hard`; `Limit` comes at the weight after
 /// which the total exceeds `2^48`. A token that begins with `%` where a clause could begin ends the text. `Count` comes where fewer
-/// clauses stand than were announced, and at the first token behind them. The first fault is answered, with its place.
+/// clauses stand than were announced, and at the first token after them. The first fault is answered, with its place.
 #[tactic(auto, unfolding(crate::specs::Texts::instance_at), using(tokens::proofs::Chains::part_fails))]
 pub fn read(alloc: Global, bytes: &[u8]) -> Result<MaxTwoSat, ReadModelError>
     requires { length bytes.now < 2 ^ 32 - 1 }

@@ -7,7 +7,7 @@ ghost use Rattle.tokens.specs.declared.read_model_error.ReadModelError.TheVarian
 ghost use Rattle.max_two_sat.specs.Clauses.{FitsLiterals};
 ghost use Rattle.max_two_sat.specs.Drafted.{gathered_in};
 ghost use Rattle.max_two_sat.specs.Room.{FitsOption, FormGives, IsGathered, IsGathering};
-ghost use Rattle.max_two_sat.specs.Texts.{behind_first, clause_at, end_of_clause, ends_clauses, ends_token, literal_at, literal_of, literals_at, reaches, weight_at};
+ghost use Rattle.max_two_sat.specs.Texts.{following_first, clause_at, end_of_clause, ends_clauses, ends_token, literal_at, literal_of, literals_at, reaches, weight_at};
 
 use crate::clause::{Literal, Literals};
 use crate::draft::Draft;
@@ -58,7 +58,7 @@ fn read_clause(
     Ok(())
 }
 
-/// Reads the weight of a clause behind clauses of this total weight.
+/// Reads the weight of a clause after clauses of this total weight.
 #[tactic(auto, unfolding(crate::specs::Texts::weight_at))]
 fn read_weight(tokens: &mut Tokens<'_>, form: Form, total: i64) -> Result<i64, ReadModelError>
     requires low { pos 0 ≤ℤ total }
@@ -93,7 +93,7 @@ fn reaches(top: Option<i64>, weight: i64) -> bool
     }
 }
 
-/// Reads the literals of a clause and the zero behind them.
+/// Reads the literals of a clause and the zero after them.
 #[tactic(auto, unfolding(crate::specs::Texts::literals_at), using(tokens::proofs::Chains::part_fails))]
 fn read_literals(tokens: &mut Tokens<'_>, variables: usize) -> Result<Literals, ReadModelError>
     requires { variables ≤ 1024 }
@@ -106,8 +106,8 @@ fn read_literals(tokens: &mut Tokens<'_>, variables: usize) -> Result<Literals, 
     }
 }
 
-/// Reads what stands behind the first literal of a clause.
-#[tactic(auto, unfolding(crate::specs::Texts::behind_first), using(tokens::proofs::Chains::part_fails))]
+/// Reads what stands after the first literal of a clause.
+#[tactic(auto, unfolding(crate::specs::Texts::following_first), using(tokens::proofs::Chains::part_fails))]
 fn read_second(
     tokens: &mut Tokens<'_>,
     variables: usize,
@@ -115,7 +115,7 @@ fn read_second(
 ) -> Result<Literals, ReadModelError>
     requires few { variables ≤ 1024 }
     requires first { a.variable < variables }
-    ensures read { Reads (λ literals. (literals, tokens.new)) result (behind_first variables a tokens.old) }
+    ensures read { Reads (λ literals. (literals, tokens.new)) result (following_first variables a tokens.old) }
     ensures range { IfOk result (λ literals. FitsLiterals variables literals) }
 {
     match read_literal(tokens, variables)? {
@@ -127,7 +127,7 @@ fn read_second(
     }
 }
 
-/// Reads the zero behind two literals.
+/// Reads the zero after two literals.
 #[tactic(auto, unfolding(crate::specs::Texts::end_of_clause), using(tokens::proofs::Chains::part_fails))]
 fn read_end(tokens: &mut Tokens<'_>, variables: usize) -> Result<(), ReadModelError>
     requires { variables ≤ 1024 }

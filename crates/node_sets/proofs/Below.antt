@@ -87,7 +87,7 @@ count_below-none n p e v l =
       | inr fails ↦ fails
     ]
 
--- the sum up to a limit, and over what comes behind it
+-- the sum up to a limit, and over what comes after it
 pub sum_below-add : (n m : ℕ) (p : ℕ → Bool) (f : ℕ → ℕ) → sum_below (n + m) p f ≡ sum_below n p f + sum_below m (λ v. p (n + v)) (λ v. f (n + v))
 sum_below-add n zero p f = ap (λ k. sum_below k p f) (add-zero n) ∙ sym (add-zero (sum_below n p f))
 sum_below-add n (suc m) p f =

@@ -12,9 +12,9 @@ use Rattle.node_sets.proofs.Words.{has_in, has-past}
 rest_before : (row : List ℤ) (word from j : ℕ) → 32 * word + j < from → (not (nat_lt (32 * word + j) from) && has row (32 * word + j)) ≡ false
 rest_before row word from j l = ap (λ b. not b && has row (32 * word + j)) (lt-ltb (32 * word + j) from l)
 
--- and one behind it is, where the row has it
-rest_behind_first : (row : List ℤ) (word from j : ℕ) → from ≤ 32 * word + j → (not (nat_lt (32 * word + j) from) && has row (32 * word + j)) ≡ has row (32 * word + j)
-rest_behind_first row word from j l = ap (λ b. not b && has row (32 * word + j)) (le-ltb (32 * word + j) from l)
+-- and one after it is, where the row has it
+rest_after_first : (row : List ℤ) (word from j : ℕ) → from ≤ 32 * word + j → (not (nat_lt (32 * word + j) from) && has row (32 * word + j)) ≡ has row (32 * word + j)
+rest_after_first row word from j l = ap (λ b. not b && has row (32 * word + j)) (le-ltb (32 * word + j) from l)
 
 -- a whole word is left
 pub whole_word : (row : List ℤ) (i bits : ℕ) → AreWords row → length row < 2 ^ 32 → bits ≡ row_word row i → IsRest row i (32 * i) bits
@@ -23,7 +23,7 @@ whole_word row i bits cells short e = record {
   short = short;
   low = omega arith;
   high = omega arith;
-  left = λ j l. ap (λ b. on b j) e ∙ has_in row i j l ∙ sym (rest_behind_first row i (32 * i) j (omega arith));
+  left = λ j l. ap (λ b. on b j) e ∙ has_in row i j l ∙ sym (rest_after_first row i (32 * i) j (omega arith));
 }
 
 -- the members of the word, from the number on, are its bits
@@ -31,7 +31,7 @@ rest_at : (row : List ℤ) (word from bits : ℕ) → IsRest row word from bits 
 rest_at row word from bits r u a b =
     let low = r.low in
     let place : 32 * word + (u - 32 * word) ≡ u = omega arith in
-    ap (has row) (sym place) ∙ sym (rest_behind_first row word from (u - 32 * word) (omega arith)) ∙ sym (r.left (u - 32 * word) (omega arith))
+    ap (has row) (sym place) ∙ sym (rest_after_first row word from (u - 32 * word) (omega arith)) ∙ sym (r.left (u - 32 * word) (omega arith))
 
 pub next_in_rest : (row : List ℤ) (word from bits : ℕ) → IsRest row word from bits → 0 < bits → bits < 2 ^ 32
     → (trailing_zeros w32 bits < 32) × IsLeastFrom (has row) from (32 * word + trailing_zeros w32 bits)
@@ -71,10 +71,10 @@ next_from row first from v l none next = record {
   ];
 }
 
--- what is left behind the next member
-pub rest_behind : (row : List ℤ) (word from bits : ℕ) → IsRest row word from bits → 0 < bits → bits < 2 ^ 32
+-- what is left after the next member
+pub rest_following : (row : List ℤ) (word from bits : ℕ) → IsRest row word from bits → 0 < bits → bits < 2 ^ 32
     → IsRest row word (32 * word + trailing_zeros w32 bits + 1) (bit_and bits (bit_not w32 (1 * 2 ^ trailing_zeros w32 bits % 2 ^ 32)))
-rest_behind row word from bits r some small =
+rest_following row word from bits r some small =
     let t = trailing_zeros w32 bits in
     let lowest = lowest_on bits some small in
     let next = (next_in_rest row word from bits r some small).1 in
@@ -88,7 +88,7 @@ rest_behind row word from bits r some small =
         | inl e ↦ ap (λ i. on (bit_and bits (bit_not w32 (1 * 2 ^ t % 2 ^ 32))) i) e ∙ ap (λ x. nat_eq x 1) (bit_at_clear_same w32 bits t lowest.0) ∙ sym (rest_before row word (32 * word + t + 1) j (omega arith))
         | inr other ↦ ap (λ x. nat_eq x 1) (bit_at_clear_other w32 bits t lowest.0 j l other) ∙ (elim (cases_lt j t) [
           | inl before ↦ lowest.2 j before ∙ sym (rest_before row word (32 * word + t + 1) j (omega arith))
-          | inr behind ↦ r.left j l ∙ (rest_behind_first row word from j (omega arith) ∙ sym (rest_behind_first row word (32 * word + t + 1) j (omega arith)))
+          | inr following ↦ r.left j l ∙ (rest_after_first row word from j (omega arith) ∙ sym (rest_after_first row word (32 * word + t + 1) j (omega arith)))
         ])
       ];
     }

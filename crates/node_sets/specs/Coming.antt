@@ -8,7 +8,7 @@ pub record Coming : Type 0 where
   pub row : List ℤ
   pub from : ℕ
 
--- the bits are the members of a word from a number on, which lies in that word or just behind it
+-- the bits are the members of a word from a number on, which lies in that word or just after it
 pub record IsRest (row : List ℤ) (word from bits : ℕ) : Type 0 where
   pub cells : AreWords row
   pub short : length row < 2 ^ 32

@@ -48,7 +48,7 @@ pub record IsSet (n : ℕ) (row : List ℤ) : Type 0 where
   pub cells : AreWords row
   pub within : (v : ℕ) → n ≤ v → has row v ≡ false
 
--- the word of the numbers that pass among so many from the first on
+-- the word of the numbers that pass among this many from the first on
 unfoldable pub word_of : (ℕ → Bool) → ℕ → ℕ → ℕ
 word_of test first zero = 0
 word_of test first (suc k) = word_of test first k + cond (test (first + k)) (2 ^ k) 0
@@ -58,7 +58,7 @@ abbrev pub rows_from : ℕ → ℕ → (ℕ → Bool) → List ℤ
 rows_from zero first test = []
 rows_from (suc words) first test = pos (word_of test first 32) ∷ rows_from words (first + 32) test
 
--- the row of so many words whose members are the numbers that pass
+-- the row of this many words whose members are the numbers that pass
 abbrev pub row_of : ℕ → (ℕ → Bool) → List ℤ
 row_of words test = rows_from words 0 test
 

@@ -94,6 +94,7 @@ impl<'a> Members<'a> {
         ensures next { IfSome result (IsLeastFrom (has self.old.row) self.old.from) }
         ensures from { IfSome result (λ v. self.new.from ≡ v + 1) }
         ensures none { IfNone result ((v : ℕ) → self.old.from ≤ v → has self.old.row v ≡ false) }
+        ensures unchanged { IfNone result (self.new ≡ self.old) }
     {
         let spot = next_spot(self.row, self.spot)?;
         let place = spot.bits.trailing_zeros();

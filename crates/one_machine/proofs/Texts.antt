@@ -15,14 +15,14 @@ use Rattle.tokens.proofs.Printing.{before_start, passes_natural, finishes}
 use Rattle.tokens.proofs.Repeats.{fold_pushes, times_reads}
 use Rattle.one_machine.specs.Instance.{Job, is_small, is_small_job}
 use Rattle.one_machine.specs.Laws.Limits.{IsSmallJob, is_small_job-is, is_small-is}
-use Rattle.one_machine.specs.Texts.{job_behind, instance_at, instance_text, line_of, text_of}
+use Rattle.one_machine.specs.Texts.{job_after, instance_at, instance_text, line_of, text_of}
 
 line_before : (x : Job) (tail : List ℕ) → line_of x ++ tail ≡ decimal_of (pos x.processing) ++ (32 ∷ (decimal_of (pos x.weight) ++ (32 ∷ (decimal_of (pos x.due) ++ (10 ∷ tail)))))
 line_before x tail = simp append_assoc
 
 -- a printed job is read
-reads_job : (x : Job) (made : List Job) (tail : List ℕ) (s : TextState) → IsSmallJob x → IsBefore (line_of x ++ tail) s → ReadsPart job_behind made (made ++ (x ∷ [])) tail s
-unfolding job_behind
+reads_job : (x : Job) (made : List Job) (tail : List ℕ) (s : TextState) → IsSmallJob x → IsBefore (line_of x ++ tail) s → ReadsPart job_after made (made ++ (x ∷ [])) tail s
+unfolding job_after
 reads_job x made tail s small before =
     let ahead = subst (λ (bytes : List ℕ). IsBefore bytes s) (line_before x tail) before in
     let processing = passes_natural x.processing 0 100000 32 (decimal_of (pos x.weight) ++ (32 ∷ (decimal_of (pos x.due) ++ (10 ∷ tail)))) s (omega arith) small.processing (omega arith) refl ahead in
@@ -31,7 +31,7 @@ reads_job x made tail s small before =
     let u = after_token t in
     let due = passes_natural x.due 0 1000000000 10 tail u (omega arith) small.due (omega arith) refl weight.before in
     record {
-      behind = after_token u;
+      following = after_token u;
       read = rw (processing.value, weight.value, due.value) refl;
       before = due.before;
       comment_is = due.comment_is ∙ (weight.comment_is ∙ processing.comment_is);
@@ -41,9 +41,9 @@ abbrev AllSmall : List Job → List Job → Type 0
 AllSmall made xs = list_all is_small_job xs ≡ true
 
 -- the lines of the jobs are read
-reads_jobs : (xs : List Job) (s : TextState) → list_all is_small_job xs ≡ true → IsBefore (flat_map line_of xs ++ []) s → ReadsPart (times job_behind (length xs)) [] (fold (λ jobs x. jobs ++ (x ∷ [])) [] xs) [] s
+reads_jobs : (xs : List Job) (s : TextState) → list_all is_small_job xs ≡ true → IsBefore (flat_map line_of xs ++ []) s → ReadsPart (times job_after (length xs)) [] (fold (λ jobs x. jobs ++ (x ∷ [])) [] xs) [] s
 reads_jobs xs s small before =
-    times_reads job_behind line_of (λ jobs x. jobs ++ (x ∷ [])) s.comment AllSmall
+    times_reads job_after line_of (λ jobs x. jobs ++ (x ∷ [])) s.comment AllSmall
     (λ x rest made tail t held same ahead. let parts = and_parts _ _ held in (reads_job x made tail t (is_small_job-is x parts.0) ahead, parts.1))
     xs [] [] s small refl before
 
@@ -57,7 +57,7 @@ reads_back jobs h =
     let t = after_token s in
     let ahead = subst (λ (bytes : List ℕ). IsBefore bytes t) (sym (append-nil lines)) count.before in
     let all = reads_jobs jobs t small.all ahead in
-    let ends = finishes all.behind all.before in
+    let ends = finishes all.following all.before in
     rw (count.value, all.read, ends) (ap (λ (l : List Job). let r : Result (List Job) InstanceError = Ok l in r) (fold_pushes jobs []))
 
 line_short : (x : Job) → IsSmallJob x → length (line_of x) ≤ 32

@@ -8,12 +8,12 @@ abbrev pub job_drawn : ℕ → ℕ → Job
 job_drawn n x = record { processing = 1 + drawn x % 10; weight = 1 + drawn (next x) % 10; due = drawn (next (next x)) % (10 * n) }
 
 -- the draws that it leaves
-abbrev pub behind_job : ℕ → ℕ
-behind_job x = next (next (next x))
+abbrev pub after_job : ℕ → ℕ
+after_job x = next (next (next x))
 
 -- the jobs with one more
 abbrev pub with_job : ℕ → List Job → ℕ → List Job × ℕ
-with_job n jobs x = (jobs ++ job_drawn n x ∷ [], behind_job x)
+with_job n jobs x = (jobs ++ job_drawn n x ∷ [], after_job x)
 
 -- the instance of n jobs from a seed
 abbrev pub generated : ℕ → ℕ → List Job

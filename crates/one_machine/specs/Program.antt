@@ -7,11 +7,11 @@ use Rattle.pending_rows.specs.Pending.{Pending, must_of, shown, row_for, is_open
 use Rattle.one_machine.specs.Instance.{Job, instance_of}
 use Rattle.one_machine.specs.OwnWords.{completion, penalty}
 
--- a job that must or may be taken, where no more jobs must be taken behind it than layers are left
+-- a job that must or may be taken, where no more jobs must be taken after it than layers are left
 abbrev pub may_take : ℕ → ℕ → Pending → ℕ → Bool
 may_take n k t d = is_open t d && nat_le (count_below n (without t.must d) + k + 1) n
 
--- the state behind a job
+-- the state after a job
 abbrev pub taken : List Job → Pending → ℕ → Pending
 taken jobs t d = done t d (completion jobs t.time d)
 

@@ -9,9 +9,9 @@ use Rattle.tokens.specs.declared.instance_error.InstanceError.{InstanceError}
 use Rattle.tokens.specs.declared.comment.Comment.TheVariants.{Never}
 use Rattle.one_machine.specs.Instance.{Job}
 
--- a job behind others
-unfoldable pub job_behind : List Job → TextState → Result (List Job × TextState) InstanceError
-job_behind jobs s =
+-- a job after others
+unfoldable pub job_after : List Job → TextState → Result (List Job × TextState) InstanceError
+job_after jobs s =
     natural_then 0 100000 s (λ p t.
     natural_then 0 100000 t (λ w u.
     natural_then 0 1000000000 u (λ due v.
@@ -21,7 +21,7 @@ job_behind jobs s =
 unfoldable pub instance_at : TextState → Result (List Job) InstanceError
 instance_at s =
     natural_then 0 100 s (λ count t.
-    part_then (times job_behind count [] t) (λ jobs u.
+    part_then (times job_after count [] t) (λ jobs u.
     end_then u (Ok jobs)))
 
 -- the instance that the bytes spell, or the first fault with its place

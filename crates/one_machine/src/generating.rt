@@ -3,7 +3,7 @@
 ghost use Rattle.std.specs.Prelude.{◌≡◌, ◌<◌, ◌≤◌, ◌^◌, true, IfOk};
 ghost use Rattle.one_machine.specs.Instance.{is_small_job};
 ghost use Rattle.one_machine.specs.Shown.{instance_in};
-ghost use Rattle.one_machine.specs.Generating.{job_drawn, behind_job, generated};
+ghost use Rattle.one_machine.specs.Generating.{job_drawn, after_job, generated};
 
 use crate::instance::OneMachine;
 use crate::job::Job;
@@ -15,7 +15,7 @@ fn draw_job(draws: &mut Draws, n: u32) -> Job
     requires some { 1 ≤ n }
     requires few { n ≤ 100 }
     ensures job { result ≡ job_drawn n draws.old }
-    ensures behind { draws.new ≡ behind_job draws.old }
+    ensures following { draws.new ≡ after_job draws.old }
     ensures small { is_small_job result ≡ true }
 {
     let processing = 1 + u64::from(draws.draw()) % 10;

@@ -10,7 +10,7 @@ ghost use Rattle.one_machine.specs.Program.{may_take, taken, least_cost, is_stat
 
 use crate::instance::OneMachine;
 use node_sets::Members;
-use pending_rows::{is_row, left, left_behind, parts_of, write_done};
+use pending_rows::{is_row, left, left_after, parts_of, write_done};
 
 /// The longest processing time.
 const LONGEST: u64 = 100_000;
@@ -74,9 +74,9 @@ impl OneMachine {
         left(self.jobs.len(), s)
     }
 
-    /// How many jobs must be taken behind a decision, or none where it is not allowed. So many as the rank must be taken before.
+    /// How many jobs must be taken after a decision, or none where it is not allowed. This many as the rank must be taken before.
     #[inline(always)]
-    pub(crate) fn rank_behind(&self, k: usize, s: &[i64], rank: i64, job: usize) -> Option<i64>
+    pub(crate) fn rank_after(&self, k: usize, s: &[i64], rank: i64, job: usize) -> Option<i64>
         requires layer { k < length self.now.jobs.items }
         requires state { IsTrue (is_state_row (length self.now.jobs.items) k s.now) }
         requires rank { rank ≡ pos (count_below (length self.now.jobs.items) (shown (sets.words_for (length self.now.jobs.items)) s.now).must) }
@@ -84,7 +84,7 @@ impl OneMachine {
         ensures allowed { is_some result ≡ may_take (length self.now.jobs.items) k (shown (sets.words_for (length self.now.jobs.items)) s.now) job }
         ensures left { IfSome result (λ left. left ≡ pos (count_below (length self.now.jobs.items) (without (shown (sets.words_for (length self.now.jobs.items)) s.now).must job))) }
     {
-        let left = left_behind(self.jobs.len(), s, rank, job)?;
+        let left = left_after(self.jobs.len(), s, rank, job)?;
         if left as usize + k + 1 > self.jobs.len() {
             return None;
         }
@@ -101,7 +101,7 @@ impl OneMachine {
         -(self.penalty(self.time(k, s), job) as i64)
     }
 
-    /// Writes the state behind a job.
+    /// Writes the state after a job.
     #[inline]
     pub(crate) fn write_taken(&self, k: usize, s: &[i64], job: usize, out: &mut [i64])
         requires state { IsTrue (is_state_row (length self.now.jobs.items) k s.now) }

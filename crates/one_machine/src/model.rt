@@ -73,7 +73,7 @@ impl DpModel for OneMachine {
     }
 
     fn allowed(&self, k: usize, s: &[i64], d: u32) -> bool {
-        self.rank_behind(k, s, self.rank_of(k, s), d as usize)
+        self.rank_after(k, s, self.rank_of(k, s), d as usize)
             .is_some()
     }
 
@@ -133,7 +133,7 @@ impl DpModel for OneMachine {
         out: &mut [i64],
     ) -> Option<Extended> {
         let job = d as usize;
-        let rank = self.rank_behind(k, s, rank, job)?;
+        let rank = self.rank_after(k, s, rank, job)?;
         let gain = self.gain_of(k, s, job);
         self.write_taken(k, s, job, out);
         Some(Extended { gain, rank })

@@ -3,18 +3,18 @@ ghost use Rattle.std.specs.List.{list_all};
 ghost use Rattle.tokens.specs.Grammar.{Reads, times};
 ghost use Rattle.one_machine.specs.Instance.{is_small_job};
 ghost use Rattle.one_machine.specs.Shown.{instance_in};
-ghost use Rattle.one_machine.specs.Texts.{job_behind, instance_text};
+ghost use Rattle.one_machine.specs.Texts.{job_after, instance_text};
 
 use crate::instance::OneMachine;
 use crate::job::Job;
 use std::alloc::Global;
 use tokens::{Comment, ReadModelError, Tokens};
 
-/// Reads a job behind others.
-#[tactic(auto, unfolding(crate::specs::Texts::job_behind))]
+/// Reads a job after others.
+#[tactic(auto, unfolding(crate::specs::Texts::job_after))]
 fn next_job(tokens: &mut Tokens, jobs: &mut Vec<Job>) -> Result<(), ReadModelError>
     requires { list_all is_small_job jobs.old.items ≡ true }
-    ensures reads { Reads (λ _. (jobs.new.items, tokens.new)) result (job_behind jobs.old.items tokens.old) }
+    ensures reads { Reads (λ _. (jobs.new.items, tokens.new)) result (job_after jobs.old.items tokens.old) }
     ensures one { OnOk result (length jobs.new.items ≡ length jobs.old.items + 1) }
     ensures small { OnOk result (list_all is_small_job jobs.new.items ≡ true) }
 {
@@ -29,11 +29,11 @@ fn next_job(tokens: &mut Tokens, jobs: &mut Vec<Job>) -> Result<(), ReadModelErr
     Ok(())
 }
 
-/// Reads so many jobs behind others.
+/// Reads this many jobs after others.
 #[tactic(auto, using(tokens::proofs::Chains::times_steps))]
 fn next_jobs(count: u64, tokens: &mut Tokens, jobs: &mut Vec<Job>) -> Result<(), ReadModelError>
     requires { list_all is_small_job jobs.old.items ≡ true }
-    ensures reads { Reads (λ _. (jobs.new.items, tokens.new)) result (times job_behind count jobs.old.items tokens.old) }
+    ensures reads { Reads (λ _. (jobs.new.items, tokens.new)) result (times job_after count jobs.old.items tokens.old) }
     ensures count { OnOk result (length jobs.new.items ≡ length jobs.old.items + count) }
     ensures small { OnOk result (list_all is_small_job jobs.new.items ≡ true) }
 {
@@ -48,7 +48,7 @@ fn next_jobs(count: u64, tokens: &mut Tokens, jobs: &mut Vec<Job>) -> Result<(),
 ///
 /// The first fault in reading order is answered, with its place: `EndOfText` where a number is missing, `NotAscii` and
 /// `NotNumber` for a token that is none, `OutOfRange` for a number outside the limits, and `Trailing` or `NotAscii` for a
-/// token behind the last job. `OutOfMemory` where there was no memory for the problem.
+/// token after the last job. `OutOfMemory` where there was no memory for the problem.
 #[tactic(auto, unfolding(crate::specs::Texts::instance_at, crate::specs::Instance::is_small), using(tokens::proofs::Chains::part_fails))]
 pub fn read(alloc: Global, bytes: &[u8]) -> Result<OneMachine, ReadModelError>
     requires { length bytes.now < 2 ^ 32 - 1 }

@@ -13,7 +13,7 @@ abbrev pub pair_sum : PairValues → PairValues → PairValues
 pair_sum p q =
     record { no_no = p.no_no +ℤ q.no_no; no_yes = p.no_yes +ℤ q.no_yes; yes_no = p.yes_no +ℤ q.yes_no; yes_yes = p.yes_yes +ℤ q.yes_yes; most = p.most +ℤ q.most }
 
--- so many variables that give nothing
+-- this many variables that give nothing
 abbrev pub nothing_of : ℕ → Instance
 nothing_of n = record { constant = pos 0; first = 2; units = replicate n no_unit; pairs = replicate (pair_count n) no_pair }
 

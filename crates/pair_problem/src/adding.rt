@@ -9,7 +9,7 @@ ghost use Rattle.pair_problem.specs.Adding.{unit_sum, pair_sum, nothing_of, plac
 use pair_rows::{PairInstance, PairValues, UnitValues, start_of_row};
 use std::alloc::{AllocError, Global};
 
-/// So many variables of two values, at most 1,024, that give nothing. Fails only for want of memory.
+/// This many variables of two values, at most 1,024, that give nothing. Fails only for want of memory.
 pub fn nothing_of(alloc: Global, variables: usize) -> Result<PairInstance, AllocError>
     requires { variables ≤ 1024 }
     ensures { IfOk result (λ list. instance_of list ≡ nothing_of variables) }
@@ -24,7 +24,7 @@ pub fn nothing_of(alloc: Global, variables: usize) -> Result<PairInstance, Alloc
     })
 }
 
-/// How many pairs so many variables make.
+/// How many pairs this many variables make.
 fn count_of_pairs(variables: usize) -> usize
     requires { variables ≤ 1024 }
     ensures { result ≡ pair_count variables }

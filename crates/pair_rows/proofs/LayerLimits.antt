@@ -27,9 +27,9 @@ get_or-raised_limits (p ∷ ps) [] m h e = absurd (omega arith)
 get_or-raised_limits (p ∷ ps) (l ∷ ls) zero h e = refl
 get_or-raised_limits (p ∷ ps) (l ∷ ls) (suc m) h e = get_or-raised_limits ps ls m (omega arith) (omega arith)
 
-get_or-behind : (ls : List ℤ) (m : ℕ) → get_or (drop 1 ls) m (pos 0) ≡ get_or ls (suc m) (pos 0)
-get_or-behind [] m = refl
-get_or-behind (l ∷ ls) m = refl
+get_or-following : (ls : List ℤ) (m : ℕ) → get_or (drop 1 ls) m (pos 0) ≡ get_or ls (suc m) (pos 0)
+get_or-following [] m = refl
+get_or-following (l ∷ ls) m = refl
 
 get_or-units : (us : List UnitValues) (v : ℕ) → v < length us → get_or (map unit_most us) v (pos 0) ≡ unit_most (get_or us v no_unit)
 get_or-units [] v h = absurd (omega arith)
@@ -41,7 +41,7 @@ pub limit-first : (us : List UnitValues) (v : ℕ) → v < length us → get_or 
 limit-first [] v h = absurd (omega arith)
 limit-first (u ∷ us) v h = get_or-units (u ∷ us) v h
 
--- behind a decision each limit is raised by the weight of the pair
+-- after a decision each limit is raised by the weight of the pair
 limit-more : (i : Instance) (j v : ℕ) → IsInstance i → j < v → v < length i.units →
     get_or (limits_at i.units i.pairs (j + 1)) (v - (j + 1)) (pos 0) ≡
     get_or (limits_at i.units i.pairs j) (v - j) (pos 0) +ℤ pair_most (get_or (row_at (rows_of (length i.units) i.pairs) j) (v - j - 1) no_pair)
@@ -58,7 +58,7 @@ limit-more i j v kept h g =
     let next : limits_at i.units i.pairs (j + 1) ≡ raised_limits row (drop 1 ls) = ap (λ n. limits_at i.units i.pairs n) one in
     let place : v - (j + 1) ≡ m = omega arith in
     let index : suc m ≡ v - j = omega arith in
-    let before : get_or (drop 1 ls) m (pos 0) ≡ get_or ls (v - j) (pos 0) = get_or-behind ls m ∙ ap (λ n. get_or ls n (pos 0)) index in
+    let before : get_or (drop 1 ls) m (pos 0) ≡ get_or ls (v - j) (pos 0) = get_or-following ls m ∙ ap (λ n. get_or ls n (pos 0)) index in
     rw (next, place, raise, before) refl
 
 pub limit-within : (ls : List ℤ) (m : ℕ) → IsTrue (none_negative ls) → (pos 0 ≤ℤ get_or ls m (pos 0)) × (get_or ls m (pos 0) ≤ℤ sum_of ls)
@@ -125,7 +125,7 @@ pair-there i j v row kept h g is =
       weight = omega (arith, ints, pair_most-at row (v - j - 1) no_pair inside positive);
     }
 
--- the limits behind layer k, one by one
+-- the limits after layer k, one by one
 
 pub record NextLimit (i : Instance) (k m : ℕ) (row : List PairValues) (before : List ℤ) : Type 0 where
   pub inside : m + 1 < length before
@@ -144,7 +144,7 @@ next-limit i k m row before kept h g row_is before_is =
     let befores : length before ≡ length (limits_at i.units i.pairs k) = ap length before_is in
     let words = words_of-some (length i.units) k h in
     let here = (limits i k kept (omega arith)).count in
-    let behind = (limits i (k + 1) kept (omega arith)).count in
+    let following = (limits i (k + 1) kept (omega arith)).count in
     let v : ℕ = k + 1 + m in
     let place : v - k - 1 ≡ m = omega arith in
     let more = limit-more i k v kept (omega arith) (omega arith) in
@@ -188,13 +188,13 @@ limits-at us ps n k layers found is low read =
     let same : length layers ≡ length (limits_through us ps n) = ap length is in
     get_or_read layers k found (omega arith) read [] ∙ (ap (λ l. get_or l k []) is ∙ limits_through-at us ps n k low)
 
--- the limits behind a layer are as many as its entries
-pub behind-long : (i : Instance) (k : ℕ) (row : List PairValues) → IsInstance i → k < length i.units → row ≡ row_at (rows_of (length i.units) i.pairs) k → length row ≡ length (limits_at i.units i.pairs (k + 1))
-behind-long i k row kept h row_is =
+-- the limits after a layer are as many as its entries
+pub following-long : (i : Instance) (k : ℕ) (row : List PairValues) → IsInstance i → k < length i.units → row ≡ row_at (rows_of (length i.units) i.pairs) k → length row ≡ length (limits_at i.units i.pairs (k + 1))
+following-long i k row kept h row_is =
     let entries = length-row_at (length i.units) i.pairs k kept.whole h in
     let rows : length row ≡ length (row_at (rows_of (length i.units) i.pairs) k) = ap length row_is in
     let words = words_of-some (length i.units) k h in
-    let behind = (limits i (k + 1) kept (omega arith)).count in
+    let following = (limits i (k + 1) kept (omega arith)).count in
     omega arith
 
 -- one limit more, and all limits

@@ -231,7 +231,7 @@ stakes-read d row z positive weight is =
 pub row_gain-cut : (row : List PairValues) (s : List ℤ) (k d : ℕ) → k < length s → row_gain row (drop k s) d ≡ choice_gain (get_or s k (pos 0)) d +ℤ shared_gain row (drop (k + 1) s) d
 row_gain-cut row s k d h = ap (λ us. row_gain row us d) (drop_more s k (pos 0) h)
 
--- the rank of the state behind a decision
+-- the rank of the state after a decision
 pub rank-stepped : (k : ℕ) (later : List ℤ) → rank_of (replicate (k + 1) (pos 0) ++ later) ≡ rank_of later
 rank-stepped k later = omega (arith, ints, rank_of-append (replicate (k + 1) (pos 0)) later, rank_of-zeros (k + 1))
 

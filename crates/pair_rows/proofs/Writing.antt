@@ -21,13 +21,13 @@ use Rattle.pair_rows.proofs.Shifting.{grown-shifts}
 pub tail-is : {X : Type 0} (k : ℕ) (s : List X) → take (length s - k) (drop k s) ≡ drop k s
 tail-is k s = take_all (length s - k) (drop k s) (omega (arith, length-drop k s))
 
--- what stands behind the first benefit has no greater rank
+-- what stands after the first benefit has no greater rank
 pub rank_of-tail : (k : ℕ) (s : List ℤ) → k < length s → rank_of (drop (k + 1) s) ≤ℤ rank_of (drop k s)
 rank_of-tail k s h =
     let cut = ap rank_of (drop_more s k (pos 0) h) in
     omega (arith, ints, size_of-positive (get_or s k (pos 0)))
 
--- the state behind a decision, by its shifts
+-- the state after a decision, by its shifts
 pub step-shifts : (row : List PairValues) (s : List ℤ) (k d : ℕ) → k < length s → take k s ≡ replicate k (pos 0)
     → replicate (k + 1) (pos 0) ++ sums_of (drop (k + 1) s) (shifts_of d row) ≡ take k s ++ row_step row (drop k s) d
 step-shifts row s k d h none =

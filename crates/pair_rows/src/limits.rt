@@ -55,7 +55,7 @@ pub(crate) fn limits_of_layers(
     let first = limits_of_units(alloc, units)?;
     layers.push(first)?;
     for k in 0..units.len() {
-        let next = limits_behind(alloc, units, pairs, k, limits_in(layers.as_slice(), k))?;
+        let next = limits_after(alloc, units, pairs, k, limits_in(layers.as_slice(), k))?;
         layers.push(next)?;
     }
     Ok(layers)
@@ -103,9 +103,9 @@ fn limit_of_unit(units: &[UnitValues], i: usize) -> i64
     unit_limit(units[i])
 }
 
-/// The limits of the layer behind layer `k`, whose limits are given: each is raised by what its variable
+/// The limits of the layer after layer `k`, whose limits are given: each is raised by what its variable
 /// and variable `k` give at most.
-fn limits_behind(
+fn limits_after(
     alloc: Global,
     units: &[UnitValues],
     pairs: &[PairValues],
@@ -120,13 +120,13 @@ fn limits_behind(
     let row = row_of(pairs, units.len(), k);
     let mut cells = Vec::with_capacity(alloc, row.len())?;
     for i in 0..row.len() {
-        cells.push(limit_behind(units, pairs, k, before, row, i))?;
+        cells.push(limit_after(units, pairs, k, before, row, i))?;
     }
     Ok(LayerLimits { cells })
 }
 
-/// How large the benefit at an index may be behind layer `k`, whose limits and entries are given.
-fn limit_behind(
+/// How large the benefit at an index may be after layer `k`, whose limits and entries are given.
+fn limit_after(
     units: &[UnitValues],
     pairs: &[PairValues],
     k: usize,

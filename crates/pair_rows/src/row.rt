@@ -56,7 +56,7 @@ fn lesser_of(a: i64, b: i64) -> i64
     if b < a { b } else { a }
 }
 
-/// Writes the state behind a decision, by how far this shifts the later benefits. So many first cells as `done` are zero
+/// Writes the state after a decision, by how far this shifts the later benefits. As many first cells as `done` are zero
 /// already. Answers its rank.
 pub(crate) fn write_step(shifts: &[i64], k: usize, s: &[i64], done: usize, out: &mut [i64]) -> i64
     requires cells { length out.old ≡ length s.now }
@@ -72,7 +72,7 @@ pub(crate) fn write_step(shifts: &[i64], k: usize, s: &[i64], done: usize, out: 
     write_sums(later, &s[k + 1..], shifts)
 }
 
-/// Writes the state behind a decision, where so many first cells as `done` are zero already. Answers its gain and its
+/// Writes the state after a decision, where as many first cells as `done` are zero already. Answers its gain and its
 /// rank, by the rank of the state and the stakes of the decision: with the later variables it gains half of the stakes
 /// and of what their benefits lose in size.
 pub(crate) fn extend_row(

@@ -29,7 +29,7 @@ listed_by (Improve value ds) = []
 listed_by (Finish ticket cs) = []
 listed_by (Snapshot best next os) = os
 
--- the part with this number, of so many parts, of a record
+-- the part with this number, of this many parts, of a record
 abbrev pub dealt_record : ℕ → ℕ → RecordView → RecordView
 dealt_record of index r = part_of (is_dealt (bounds_in (listed_by r)) of index) r
 

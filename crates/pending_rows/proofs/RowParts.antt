@@ -31,9 +31,9 @@ may_of-row_for words t =
     ap (take words) (drop_at (row_of words t.must) (row_of words t.may ++ pos t.time ∷ []) words (length-row_of words t.must))
     ∙ take_at (row_of words t.may) (pos t.time ∷ []) words (length-row_of words t.may)
 
--- behind the first cells of a row
-pub behind : (front rest : List ℤ) (words k : ℕ) → length front ≡ words → get_or (front ++ rest) (words + k) (pos 0) ≡ get_or rest k (pos 0)
-behind front rest words k l =
+-- after the first cells of a row
+pub following : (front rest : List ℤ) (words k : ℕ) → length front ≡ words → get_or (front ++ rest) (words + k) (pos 0) ≡ get_or rest k (pos 0)
+following front rest words k l =
     get_or-append_right front rest words (words + k) (pos 0) l (omega arith) ∙ (let e : words + k - words ≡ k = omega arith in ap (λ j. get_or rest j (pos 0)) e)
 
 two_words : (words : ℕ) → 2 * words ≡ words + (words + 0)
@@ -42,8 +42,8 @@ two_words words = omega arith
 pub time_of-row_for : (words : ℕ) (t : Pending) → time_of words (row_for words t) ≡ pos t.time
 time_of-row_for words t =
     ap (λ k. get_or (row_for words t) k (pos 0)) (two_words words)
-    ∙ behind (row_of words t.must) _ words (words + 0) (length-row_of words t.must)
-    ∙ behind (row_of words t.may) _ words 0 (length-row_of words t.may)
+    ∙ following (row_of words t.must) _ words (words + 0) (length-row_of words t.must)
+    ∙ following (row_of words t.may) _ words 0 (length-row_of words t.may)
 
 pub length-row_for : (words : ℕ) (t : Pending) → length (row_for words t) ≡ 2 * words + 1
 length-row_for words t =

@@ -99,8 +99,8 @@ pub left_taken : (n d : ℕ) (test : ℕ → Bool) (rank : ℤ) → n ≤ 1024 �
 left_taken n d test rank few inside e there =
     let read = read_count rank n test e few in
     let less = sum-without n d test (λ _. 1) inside there in
-    let behind : to_z w64 (of_z w64 rank) -ℤ pos 1 ≡ pos (count_below n (without test d)) = omega (arith, ints, read, less) in
-    read_count (to_z w64 (of_z w64 rank) -ℤ pos 1) n (without test d) behind few
+    let following : to_z w64 (of_z w64 rank) -ℤ pos 1 ≡ pos (count_below n (without test d)) = omega (arith, ints, read, less) in
+    read_count (to_z w64 (of_z w64 rank) -ℤ pos 1) n (without test d) following few
 
 pub left_kept : (n d : ℕ) (test : ℕ → Bool) (rank : ℤ) → n ≤ 1024 → rank ≡ pos (count_below n test) → test d ≡ false → to_z w64 (of_z w64 rank) ≡ pos (count_below n (without test d))
 left_kept n d test rank few e none = read_count rank n test e few ∙ ap pos (without-other n d test (λ _. 1) none)

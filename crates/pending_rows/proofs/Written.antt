@@ -27,8 +27,8 @@ pub time_read : (z : ℤ) (t : ℕ) → z ≡ pos t → t ≤ latest → nat_abs
 time_read z t e l = ap (λ z. nat_abs (to_z w64 (of_z w64 z))) e ∙ ap nat_abs (to_z-of_z w64 (pos t) (fits_time t l))
 
 -- the second part of a row that was split
-pub split_may : (w words : ℕ) (row behind part : List ℤ) → words ≡ w → behind ≡ drop words row → part ≡ take words behind → part ≡ may_of w row
-split_may w words row behind part e b p = p ∙ ap₂ (λ (n : ℕ) (r : List ℤ). take n r) e (b ∙ ap (λ n. drop n row) e)
+pub split_may : (w words : ℕ) (row following part : List ℤ) → words ≡ w → following ≡ drop words row → part ≡ take words following → part ≡ may_of w row
+split_may w words row following part e b p = p ∙ ap₂ (λ (n : ℕ) (r : List ℤ). take n r) e (b ∙ ap (λ n. drop n row) e)
 
 pub may_part : (w words : ℕ) (s : List ℤ) → words ≡ w → take (2 * words - words) (drop words s) ≡ may_of w s
 may_part w words s e = ap₂ (λ n m. take n (drop m s)) (let l : 2 * words - words ≡ w = omega (arith, e) in l) e

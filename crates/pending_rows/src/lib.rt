@@ -20,5 +20,5 @@ mod writing;
 
 pub use orders::{are_below, are_different, is_order};
 pub use parts::{Parts, parts_of};
-pub use states::{covers, is_row, left, left_behind, next_open};
+pub use states::{covers, is_row, left, left_after, next_open};
 pub use writing::{write_done, write_joined, write_start};

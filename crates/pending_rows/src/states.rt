@@ -86,10 +86,10 @@ pub fn left(n: usize, s: &[i64]) -> i64
     count(parts_of(n, s).must) as i64
 }
 
-/// How many numbers must be done once one is done, or none where that one neither must nor may be done. So many as the rank must
+/// How many numbers must be done once one is done, or none where that one neither must nor may be done. This many as the rank must
 /// be done before.
 #[inline(always)]
-pub fn left_behind(n: usize, s: &[i64], rank: i64, number: usize) -> Option<i64>
+pub fn left_after(n: usize, s: &[i64], rank: i64, number: usize) -> Option<i64>
     requires few { n ≤ 1024 }
     requires state { IsTrue (is_pending_row n s.now) }
     requires rank { rank ≡ pos (count_below n (shown (sets.words_for n) s.now).must) }

@@ -16,7 +16,7 @@ use Rattle.qubo.specs.declared.line.Line.{Line}
 use Rattle.qubo.specs.Quadratic.{Quadratic, IsQuadratic, is_line}
 use Rattle.qubo.specs.Room.{IsLine}
 use Rattle.qubo.specs.Laws.Listing.{is_line-is}
-use Rattle.qubo.specs.Reading.{line_behind, instance_at, instance_text}
+use Rattle.qubo.specs.Reading.{line_after, instance_at, instance_text}
 use Rattle.qubo.specs.Printing.{line_text, text_of}
 
 -- a weight has at most nine digits
@@ -29,8 +29,8 @@ line_before : (l : Line) (tail : List ℕ) →
 line_before l tail = simp append_assoc
 
 -- a printed line is read
-reads_line : (n : ℕ) (l : Line) (made : List Line) (tail : List ℕ) (s : TextState) → n ≤ 1024 → IsLine n l → IsBefore (line_text l ++ tail) s → ReadsPart (line_behind n) made (made ++ (l ∷ [])) tail s
-unfolding line_behind
+reads_line : (n : ℕ) (l : Line) (made : List Line) (tail : List ℕ) (s : TextState) → n ≤ 1024 → IsLine n l → IsBefore (line_text l ++ tail) s → ReadsPart (line_after n) made (made ++ (l ∷ [])) tail s
+unfolding line_after
 reads_line n l made tail s few line before =
     let ahead = subst (λ (bytes : List ℕ). IsBefore bytes s) (line_before l tail) before in
     let first = passes_natural (l.first + 1) 1 n 32 _ s (omega arith) (omega (arith, line.order, line.within)) (omega arith) refl ahead in
@@ -41,7 +41,7 @@ reads_line n l made tail s few line before =
     let first_back : l.first + 1 - 1 ≡ l.first = omega arith in
     let second_back : l.second + 1 - 1 ≡ l.second = omega arith in
     record {
-      behind = after_token u;
+      following = after_token u;
       read =
           rw (first.value, second.value, weight.value)
           (ap₂ (λ (a b : ℕ). let r : Result (List Line × TextState) InstanceError = Ok (made ++ record { first = a; second = b; weight = l.weight } ∷ [], after_token u) in r) first_back second_back);
@@ -54,9 +54,9 @@ text_before q = simp append_assoc
 
 -- the lines are read
 reads_lines : (n : ℕ) (ls : List Line) (s : TextState) → n ≤ 1024 → list_all (is_line n) ls ≡ true → IsBefore (flat_map line_text ls ++ []) s →
-    ReadsPart (times (line_behind n) (length ls)) [] (fold (λ lines l. lines ++ (l ∷ [])) [] ls) [] s
+    ReadsPart (times (line_after n) (length ls)) [] (fold (λ lines l. lines ++ (l ∷ [])) [] ls) [] s
 reads_lines n ls s few each before =
-    times_reads (line_behind n) line_text (λ lines l. lines ++ (l ∷ [])) s.comment (λ made xs. list_all (is_line n) xs ≡ true)
+    times_reads (line_after n) line_text (λ lines l. lines ++ (l ∷ [])) s.comment (λ made xs. list_all (is_line n) xs ≡ true)
     (λ l rest made tail t held same ahead. let parts = and_parts _ _ held in (reads_line n l made tail t few (is_line-is n l parts.0) ahead, parts.1))
     ls [] [] s each refl before
 
@@ -72,6 +72,6 @@ reads_back q h =
     let u = after_token t in
     let ahead = subst (λ (bytes : List ℕ). IsBefore bytes u) (sym (append-nil lines)) count.before in
     let read = reads_lines q.variables q.lines u h.few h.each ahead in
-    let ends = finishes read.behind read.before in
+    let ends = finishes read.following read.before in
     rw (variables.value, count.value, read.read, ends)
     (ap (λ (ls : List Line). let r : Result Quadratic InstanceError = Ok (record { variables = q.variables; lines = ls }) in r) (fold_pushes q.lines []))

@@ -11,12 +11,12 @@ line_drawn n x =
     record { first = first; second = first + drawn (next x) % (n - first); weight = pos (drawn (next (next x)) % 201) -ℤ pos 100 }
 
 -- the draws that it leaves
-abbrev pub behind_line : ℕ → ℕ
-behind_line x = next (next (next x))
+abbrev pub after_line : ℕ → ℕ
+after_line x = next (next (next x))
 
 -- the lines with one more
 abbrev pub with_drawn : ℕ → List Line → ℕ → List Line × ℕ
-with_drawn n lines x = (lines ++ line_drawn n x ∷ [], behind_line x)
+with_drawn n lines x = (lines ++ line_drawn n x ∷ [], after_line x)
 
 -- the instance of n variables from a seed
 abbrev pub generated : ℕ → ℕ → Quadratic

@@ -5,7 +5,7 @@ use Rattle.tokens.specs.Decimal.{decimal_of}
 use Rattle.qubo.specs.declared.line.Line.{Line}
 use Rattle.qubo.specs.Quadratic.{Quadratic}
 
--- a number and the byte behind it
+-- a number and the byte after it
 abbrev pub spaced : ℕ → List ℕ
 spaced n = decimal_of (pos n) ++ 32 ∷ []
 

@@ -8,9 +8,9 @@ use Rattle.tokens.specs.declared.comment.Comment.TheVariants.{Never}
 use Rattle.qubo.specs.declared.line.Line.{Line}
 use Rattle.qubo.specs.Quadratic.{Quadratic}
 
--- a line behind others: a variable, the same or a later one, and the weight
-unfoldable pub line_behind : ℕ → List Line → TextState → Result (List Line × TextState) InstanceError
-line_behind n lines s =
+-- a line after others: a variable, the same or a later one, and the weight
+unfoldable pub line_after : ℕ → List Line → TextState → Result (List Line × TextState) InstanceError
+line_after n lines s =
     natural_then 1 n s (λ a t.
     natural_then a n t (λ b u.
     number_then (neg_ℤ (pos 250000000)) (pos 250000000) u (λ w v.
@@ -20,7 +20,7 @@ unfoldable pub instance_at : TextState → Result Quadratic InstanceError
 instance_at s =
     natural_then 0 1024 s (λ n t.
     natural_then 0 (2 ^ 20) t (λ m u.
-    part_then (times (line_behind n) m [] u) (λ lines v.
+    part_then (times (line_after n) m [] u) (λ lines v.
     end_then v (Ok (record { variables = n; lines = lines })))))
 
 -- the instance that the bytes spell, or the first fault with its place

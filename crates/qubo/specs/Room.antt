@@ -4,7 +4,7 @@ use Rattle.pair_rows.specs.Instance.{Instance}
 use Rattle.pair_rows.specs.Limits.{IsInstance}
 use Rattle.qubo.specs.declared.line.Line.{Line}
 
--- a line of two of n variables, the first not behind the second, with a weight within its limits
+-- a line of two of n variables, the first not after the second, with a weight within its limits
 pub record IsLine (n : ℕ) (l : Line) : Type 0 where
   pub order : l.first ≤ l.second
   pub within : l.second < n

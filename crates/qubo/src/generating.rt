@@ -2,7 +2,7 @@
 
 ghost use Rattle.std.specs.Prelude.{◌≡◌, ◌<◌, ◌≤◌, ◌^◌, ◌%◌, true, IfOk};
 ghost use Rattle.draws.specs.Draws.{next, drawn};
-ghost use Rattle.qubo.specs.Generating.{line_drawn, behind_line, generated};
+ghost use Rattle.qubo.specs.Generating.{line_drawn, after_line, generated};
 ghost use Rattle.qubo.specs.Quadratic.{is_line};
 ghost use Rattle.qubo.specs.Shown.{instance_in};
 
@@ -15,7 +15,7 @@ use std::alloc::{AllocError, Global};
 fn draw_below(draws: &mut Draws, most: u32) -> u32
     requires { 0 < most }
     ensures number { result ≡ drawn draws.old % most }
-    ensures behind { draws.new ≡ next draws.old }
+    ensures following { draws.new ≡ next draws.old }
     ensures below { result < most }
 {
     draws.draw() % most
@@ -25,7 +25,7 @@ fn draw_below(draws: &mut Draws, most: u32) -> u32
 fn draw_line(draws: &mut Draws, n: u32) -> Line
     requires { 0 < n }
     ensures line { result ≡ line_drawn n draws.old }
-    ensures behind { draws.new ≡ behind_line draws.old }
+    ensures following { draws.new ≡ after_line draws.old }
     ensures kept { is_line n result ≡ true }
 {
     let first = draw_below(draws, n);

@@ -2,7 +2,7 @@ ghost use Rattle.std.specs.Prelude.{◌≡◌, ◌+◌, ◌-◌, ◌^◌, ◌<�
 ghost use Rattle.std.specs.List.{list_all};
 ghost use Rattle.tokens.specs.Grammar.{Reads, times};
 ghost use Rattle.qubo.specs.Quadratic.{is_line};
-ghost use Rattle.qubo.specs.Reading.{line_behind, instance_text};
+ghost use Rattle.qubo.specs.Reading.{line_after, instance_text};
 ghost use Rattle.qubo.specs.Shown.{instance_in};
 
 use crate::instance::Qubo;
@@ -17,7 +17,7 @@ const MOST_LINES: u64 = 1_048_576;
 const GREATEST_WEIGHT: i64 = 250_000_000;
 
 /// Reads a line and appends it.
-#[tactic(auto, unfolding(crate::specs::Reading::line_behind), using(tokens::proofs::Chains::part_fails))]
+#[tactic(auto, unfolding(crate::specs::Reading::line_after), using(tokens::proofs::Chains::part_fails))]
 fn next_line(
     variables: u64,
     tokens: &mut Tokens,
@@ -25,7 +25,7 @@ fn next_line(
 ) -> Result<(), ReadModelError>
     requires few { variables ≤ 1024 }
     requires kept { list_all (is_line variables) lines.old.items ≡ true }
-    ensures reads { Reads (λ _. (lines.new.items, tokens.new)) result (line_behind variables lines.old.items tokens.old) }
+    ensures reads { Reads (λ _. (lines.new.items, tokens.new)) result (line_after variables lines.old.items tokens.old) }
     ensures one { OnOk result (length lines.new.items ≡ length lines.old.items + 1) }
     ensures kept { OnOk result (list_all (is_line variables) lines.new.items ≡ true) }
 {
@@ -50,7 +50,7 @@ fn next_lines(
 ) -> Result<(), ReadModelError>
     requires few { variables ≤ 1024 }
     requires kept { list_all (is_line variables) lines.old.items ≡ true }
-    ensures reads { Reads (λ _. (lines.new.items, tokens.new)) result (times (line_behind variables) count lines.old.items tokens.old) }
+    ensures reads { Reads (λ _. (lines.new.items, tokens.new)) result (times (line_after variables) count lines.old.items tokens.old) }
     ensures count { OnOk result (length lines.new.items ≡ length lines.old.items + count) }
     ensures kept { OnOk result (list_all (is_line variables) lines.new.items ≡ true) }
 {

@@ -88,7 +88,7 @@ half-further dp start s new j depth at e n =
     n ∙ (ap (λ (v : SpaceView). record v { layers = ended_at dp depth (depth - length v.prefix) v.layers }) e
     ∙ (ap (λ i. record start { layers = ended_at dp depth i (half dp k (suc j) start.layers) }) here ∙ ap (λ ls. record start { layers = ls }) (half-next dp k j depth start.layers at)))
 
--- From the last layer up, `below` layers below the first one: so many of them have their suffixes.
+-- From the last layer up, `below` layers below the first one: this many of them have their suffixes.
 pub record AreSet (dp : Dp) (start s : SpaceView) (last below above : ℕ) : Type 0 where
   pub small : dp.vars ≤ 1024
   pub numbers : AreLayersWithin dp start.width (length start.prefix) start.layers

@@ -95,7 +95,7 @@ few n (p ∷ ps) within apart =
     let one = hits_more p ps n within.0 apart.0 in
     omega arith
 
--- so many rows are free at most
+-- this many rows are free at most
 pub spare_few : (cells : List ℤ) (words count free spare : ℕ) → HasFreeChain cells words count free spare → spare ≤ count
 spare_few cells words count free spare c =
     let ps = free_from cells words spare free in
@@ -254,7 +254,7 @@ live_slot cells words p ps row h = go (has ps p) refl
 pub head_none : (cells : List ℤ) (words p : ℕ) (ps : List ℕ) → live_row_at cells words (p ∷ ps) p ≡ None
 head_none cells words p ps = rw (same_number p) refl
 
--- more cells behind the rows change nothing
+-- more cells after the rows change nothing
 module _ (cells more : List ℤ) (words count : ℕ) (positive : 0 < words) (room : count * words ≤ length cells) where
   longer_row : (q : ℕ) → q < count → row_at (cells ++ more) words q ≡ row_at cells words q
   longer_row q less =

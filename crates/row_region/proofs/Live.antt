@@ -64,7 +64,7 @@ front_set cells words fresh free given p x ys less =
 pub length-places : (cells : List ℤ) (words count fresh free given : ℕ) → fresh ≤ count → length (places cells words count fresh free given) ≡ count
 length-places cells words count fresh free given low =
     let front = length-table (live_row_at cells words (free_from cells words given free)) fresh in
-    let behind = length-replicate (count - fresh) (let none : Option (List ℤ) = None in none) in
+    let following = length-replicate (count - fresh) (let none : Option (List ℤ) = None in none) in
     let both = length-append (slots cells words fresh free given) (replicate (count - fresh) None) in
     omega arith
 
@@ -79,11 +79,11 @@ none_in : (n : ℕ) → count_by is_none (replicate n (let none : Option (List �
 none_in zero = refl
 none_in (suc n) = let rest = none_in n in sum_by-cons (λ (o : Option (List ℤ)). cond (is_none o) 1 0) None (replicate n None) ∙ omega arith
 
--- so many rows are free
+-- this many rows are free
 pub places_count : (cells : List ℤ) (words count fresh free given : ℕ) → HasFreeChain cells words fresh free given → given + (count - fresh) ≡ count_by is_none (places cells words count fresh free given)
 places_count cells words count fresh free given chain =
     let front = spare_counts cells words fresh free given chain in
-    let behind = none_in (count - fresh) in
+    let following = none_in (count - fresh) in
     let both = sum_by-append (λ (o : Option (List ℤ)). cond (is_none o) 1 0) (slots cells words fresh free given) (replicate (count - fresh) None) in
     omega arith
 

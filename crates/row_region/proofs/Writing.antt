@@ -20,8 +20,8 @@ module _ (cells : List ℤ) (words p : ℕ) (w : List ℤ) (room : p * words + w
   abbrev part : List ℤ
   part = refilled words (row_at cells words p) w
 
-  abbrev behind : List ℤ
-  behind = drop words (drop at cells)
+  abbrev following : List ℤ
+  following = drop words (drop at cells)
 
   long : length part ≡ words
   long = length-refilled words (row_at cells words p) w (length-row cells words p room)
@@ -31,8 +31,8 @@ module _ (cells : List ℤ) (words p : ℕ) (w : List ℤ) (room : p * words + w
 
   pub length-written : length (written at words cells w) ≡ length cells
   length-written =
-      let a = length-append (take at cells) (part ++ behind) in
-      let b = length-append part behind in
+      let a = length-append (take at cells) (part ++ following) in
+      let b = length-append part following in
       let c = length-drop words (drop at cells) in
       let d = length-drop at cells in
       let e = long in let f = front in
@@ -41,8 +41,8 @@ module _ (cells : List ℤ) (words p : ℕ) (w : List ℤ) (room : p * words + w
   written_after : (k : ℕ) → at + words ≤ k → get_or (written at words cells w) k (pos 0) ≡ get_or cells k (pos 0)
   written_after k h =
       let n : at + (words + (k - at - words)) ≡ k = omega arith in
-      get_or-append_right (take at cells) (part ++ behind) at k (pos 0) front (omega arith)
-      ∙ get_or-append_right part behind words (k - at) (pos 0) long (omega arith)
+      get_or-append_right (take at cells) (part ++ following) at k (pos 0) front (omega arith)
+      ∙ get_or-append_right part following words (k - at) (pos 0) long (omega arith)
       ∙ get_or-drop words (drop at cells) (k - at - words) (pos 0)
       ∙ get_or-drop at cells (words + (k - at - words)) (pos 0)
       ∙ ap (λ (j : ℕ). get_or cells j (pos 0)) n
@@ -50,12 +50,12 @@ module _ (cells : List ℤ) (words p : ℕ) (w : List ℤ) (room : p * words + w
   pub written_but : SameBut cells (written at words cells w) words p
   written_but = record {
     size = length-written;
-    before = λ k h. get_or_append_left (take at cells) (part ++ behind) (pos 0) k (let f = front in omega arith) ∙ get_or-take at cells k (pos 0) h;
+    before = λ k h. get_or_append_left (take at cells) (part ++ following) (pos 0) k (let f = front in omega arith) ∙ get_or-take at cells k (pos 0) h;
     after = written_after;
   }
 
   pub written_row : row_at (written at words cells w) words p ≡ part
-  written_row = ap (take words) (drop_at (take at cells) (part ++ behind) at front) ∙ take_at part behind words long
+  written_row = ap (take words) (drop_at (take at cells) (part ++ following) at front) ∙ take_at part following words long
 
   -- the vector has what was written
   pub written_whole : (len : ℕ) → len ≡ length cells → take len (written at words cells w ++ drop (length (written at words cells w)) cells) ≡ written at words cells w

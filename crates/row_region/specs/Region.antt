@@ -1,7 +1,7 @@
 -- A region as callers see it: which rows are live, and what stands in them.
 use Rattle.std.specs.Prelude.{◌≡◌, ℕ, ◌+◌, ℤ, pos, List, [], ◌++◌, length, take, drop, replicate, slice_get, slice_set, slice_index_or, Option, Some, None}
 
--- each row has so many cells; the row of each place, or none where it is free; so many places are free
+-- each row has this many cells; the row of each place, or none where it is free; this many places are free
 pub record RegionView : Type 0 where
   pub words : ℕ
   pub rows : List (Option (List ℤ))
@@ -32,7 +32,7 @@ abbrev pub row_or : Option (List ℤ) → List ℤ
 row_or None = []
 row_or (Some row) = row
 
--- the list, cut to so many cells, or filled up from the old one
+-- the list, cut to this many cells, or filled up from the old one
 abbrev pub refilled : ℕ → List ℤ → List ℤ → List ℤ
 refilled words old new = take words (new ++ drop (length new) old)
 

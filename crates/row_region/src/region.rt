@@ -20,11 +20,11 @@ pub struct RowId {
 /// Rows of one length in one block of cells. Each is live or free.
 #[derive(Debug, Drop)]
 pub struct Region {
-    // the rows, one behind the other; the first cell of one that was given back is the place of the next such one
+    // the rows, one after the other; the first cell of one that was given back is the place of the next such one
     cells: Vec<i64>,
     words: usize,
     count: usize,
-    // the place of the first row that was not taken yet; so were none behind it
+    // the place of the first row that was not taken yet; so were none after it
     fresh: usize,
     // the place of the first row that was given back, where there is one, and how many were
     free: usize,
@@ -45,7 +45,7 @@ impl Model for Region {
 }
 
 impl Region {
-    /// No rows, of so many cells each. It takes no memory.
+    /// No rows, of this many cells each. It takes no memory.
     ///
     /// A row has at least one cell.
     pub fn empty(alloc: Global, words: usize) -> Region
@@ -62,7 +62,7 @@ impl Region {
         }
     }
 
-    /// So many rows of so many cells, all free. It fails only for want of memory.
+    /// This many rows of this many cells, all free. It fails only for want of memory.
     ///
     /// A row has at least one cell.
     pub fn new(alloc: Global, words: usize, rows: usize) -> Result<Region, AllocError>
@@ -178,7 +178,7 @@ impl Region {
         self.given = 0;
     }
 
-    /// Adds so many free rows. It fails only for want of memory, and then changes nothing.
+    /// Adds this many free rows. It fails only for want of memory, and then changes nothing.
     pub fn grow(&mut self, rows: usize) -> Result<(), AllocError>
         ensures ok { OnOk result (self.new ≡ record self.old { rows = self.old.rows ++ replicate rows None; spare = self.old.spare + rows }) }
         ensures err { OnErr result (self.new ≡ self.old) }

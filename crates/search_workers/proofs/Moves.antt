@@ -1,4 +1,4 @@
--- Moves of a kept board: one behind the other, and that of one holding.
+-- Moves of a kept board: one after the other, and that of one holding.
 use Rattle.std.proofs.Common.{◌≡◌, ◌∙◌, ℕ, ℤ, List, [], ◌∷◌, ◌++◌, Option, ◌⊎◌, ⊎_elim, inr, sym, ap, subst}
 use Rattle.turn.specs.History.{Moved, HasMoved}
 use Rattle.turn.specs.Order.{NoLess}
@@ -17,12 +17,12 @@ module _ {V : Type 0} (moves : V → V → ℕ → Type 0) where
   pub moved_by : (first next : V) (number : ℕ) → moves first next number → HasMoved moves first next
   moved_by first next number one = moved_once moves first first next number (not_moved moves first) (inr one)
 
-  moved-behind : (first : V) (line : List (ℕ × V)) (middle : V) (more : List (ℕ × V)) (last : V) → Moved moves first line middle → Moved moves middle more last → Moved moves first (line ++ more) last
-  moved-behind first [] middle more last h k = subst (λ v. Moved moves v more last) (sym h) k
-  moved-behind first (m ∷ line) middle more last h k = (h.0, moved-behind m.1 line middle more last h.1 k)
+  moved-following : (first : V) (line : List (ℕ × V)) (middle : V) (more : List (ℕ × V)) (last : V) → Moved moves first line middle → Moved moves middle more last → Moved moves first (line ++ more) last
+  moved-following first [] middle more last h k = subst (λ v. Moved moves v more last) (sym h) k
+  moved-following first (m ∷ line) middle more last h k = (h.0, moved-following m.1 line middle more last h.1 k)
 
   pub moved_then : (a b c : V) → HasMoved moves a b → HasMoved moves b c → HasMoved moves a c
-  moved_then a b c h k = record { line = h.line ++ k.line; moved = moved-behind a h.line b k.line c h.moved k.moved }
+  moved_then a b c h k = record { line = h.line ++ k.line; moved = moved-following a h.line b k.line c h.moved k.moved }
 
 pub no-less-then : (a b c : Option ℤ) → NoLess a b → NoLess b c → NoLess a c
 no-less-then a b c h k = no-less-of a c (option-then a b c (at-most-of a b h) (at-most-of b c k))

@@ -24,7 +24,7 @@ impl Model for Parts {
 }
 
 impl Parts {
-    /// So many parts.
+    /// This many parts.
     pub fn new(count: u32) -> Parts
         requires some { 0 < count }
         requires few { count ≤ 64 }
@@ -33,7 +33,7 @@ impl Parts {
         Parts { count }
     }
 
-    /// The way to expand layers in so many parts, each by a thread of the runtime where one can be made. It takes no memory.
+    /// The way to expand layers in this many parts, each by a thread of the runtime where one can be made. It takes no memory.
     pub(crate) fn way<'r, R: Threads + Sync>(self, rt: &'r R, alloc: Global) -> Way<'r, R> {
         Way::in_parts(rt, alloc, self.count)
     }

@@ -11,10 +11,10 @@ use Rattle.dp_model.specs.Laws.{IsLawful}
 use Rattle.board_laws.specs.Board.{BoardState}
 use Rattle.board_laws.specs.GoodBoard.{IsGood}
 use Rattle.board_laws.specs.declared.settings.Settings.{Settings}
-use Rattle.journal_bytes.specs.Base.{base_offset, behind_record, from_base}
+use Rattle.journal_bytes.specs.Base.{base_offset, following_record, from_base}
 use Rattle.journal_bytes.specs.Bodies.{RecordView, RecordsView}
 use Rattle.journal_bytes.specs.Frames.{frames_of}
-use Rattle.journal_bytes.specs.Journal.{HeadView, HasRecords, JournalView, behind_head, head_view, journal_of, journal_view}
+use Rattle.journal_bytes.specs.Journal.{HeadView, HasRecords, JournalView, after_head, head_view, journal_of, journal_view}
 use Rattle.journal_bytes.specs.declared.head.Head.{Head}
 use Rattle.journal_bytes.specs.declared.tail.Tail.{Tail}
 use Rattle.journal_bytes.specs.declared.refusal.Refusal.{Refusal}
@@ -41,7 +41,7 @@ use Rattle.answers.specs.Kept.{GoesOn, going_on, MayBeAdded, MayFollow, Resumes,
 use Rattle.answers.specs.Outcomes.{HasSearched}
 use Rattle.answers.specs.Over.{IsOver}
 use Rattle.solver_words.specs.declared.job.JobSettings.{JobSettings}
-use Rattle.answers.proofs.Journaled.{IsFound, at-first, ends-resumed, is-found, left-behind, none-behind, same-names, same-start, still-first, still-tells}
+use Rattle.answers.proofs.Journaled.{IsFound, at-first, ends-resumed, is-found, left-following, none-following, same-names, same-start, still-first, still-tells}
 use Rattle.solver_cli.specs.Journals.{IsOpened, LeavesOpened, TouchesNothing}
 use Rattle.solver_cli.specs.Searches.{IsKeptOn, KeepsSome, report_of}
 use Rattle.solver_cli.specs.Starts.{AreAsked, DoesNotGoOn, GoesOnFrom}
@@ -55,7 +55,7 @@ use Rattle.solver_cli.proofs.Searched.{in-words}
 not-disk : (dp : Dp) (s : Replayed) (at : ℕ) (records : List RecordView) → IsFirstWrong dp s at records errors.Disk → ⊥
 not-disk dp s at [] h = h
 not-disk dp s at (r ∷ rs) (inl h) = h
-not-disk dp s at (r ∷ rs) (inr h) = not-disk dp (after_record dp s r) (behind_record at r) rs h.1
+not-disk dp s at (r ∷ rs) (inr h) = not-disk dp (after_record dp s r) (following_record at r) rs h.1
 
 refused-not-disk : (dp : Dp) (at : ℕ) (records : List RecordView) → AreRefused dp at records errors.Disk → ⊥
 refused-not-disk dp at records (inl memory) = cc
@@ -118,10 +118,10 @@ module _ {D : Type 0} (on : Ghosts D) where
       leaves now settings k =
           let b = k.board in
           let tail = k.keeps.tail in
-          let behind = left-behind on dp b made now tail k.keeps.same k.keeps.kept opened.synced opened.counted head records (λ tells. (opened.is_open tells).1) opened.found opened.unwritten in
+          let following = left-following on dp b made now tail k.keeps.same k.keeps.kept opened.synced opened.counted head records (λ tells. (opened.is_open tells).1) opened.found opened.unwritten in
           record {
-            written = behind.0;
-            gone = behind.1;
+            written = following.0;
+            gone = following.1;
             start = same-start on dp b made now tail k.keeps.same k.keeps.kept opened.synced;
             still_tells = still-tells on dp b made now tail k.keeps.same k.keeps.kept;
             same_names = same-names on dp b made now tail k.keeps.same k.keeps.kept;
@@ -165,7 +165,7 @@ module _ {D : Type 0} (on : Ghosts D) where
     written = [];
     gone = λ tells. at-first (on.start made) (on.found made) (on.seen made) (λ s. HasRecords head records s.content × (HasRecords head records s.content → HasGoneOn on (Follow []) head records [] made s)) (λ s. HasGoneOn on (Follow []) head records [] made s)
         (λ s both. both.1 both.0)
-        (both-first (on.start made) (on.found made) (on.seen made) (λ s. HasRecords head records s.content) (λ s. HasRecords head records s.content → HasGoneOn on (Follow []) head records [] made s) (opened.found tells) (none-behind on (Follow []) made head records may opened.unwritten tells));
+        (both-first (on.start made) (on.found made) (on.seen made) (λ s. HasRecords head records s.content) (λ s. HasRecords head records s.content → HasGoneOn on (Follow []) head records [] made s) (opened.found tells) (none-following on (Follow []) made head records may opened.unwritten tells));
     start = refl;
     still_tells = refl;
     same_names = refl;
@@ -199,7 +199,7 @@ module _ {D : Type 0} (on : Ghosts D) where
       file = opened.file;
       began = subst (λ (o : Option FirstSync). IsSome o) (sym left.start) began;
       is_file = λ tells. still-first (on.start made) (on.start now) (on.found made) (on.seen made) (on.found now) (on.seen now) (λ s. s.content ≡ opened.file) began left.start (opened.is_file (subst IsTrue left.still_tells tells));
-      right = subst (λ x. MatchResult x (λ j. ResumesJournal on j (behind_head (frames_of opened.file)) search now answer) (λ refusal. answer ≡ answers.Journal (error_of refusal))) (sym opened.opens)
+      right = subst (λ x. MatchResult x (λ j. ResumesJournal on j (after_head (frames_of opened.file)) search now answer) (λ refusal. answer ≡ answers.Journal (error_of refusal))) (sym opened.opens)
           (subst (λ first. ResumesJournal on (journal_view r) first search now answer) opened.first h);
     }
 
@@ -226,7 +226,7 @@ module _ {D : Type 0} (on : Ghosts D) where
       file = opened.file;
       began = opened.began told;
       is_file = opened.is_file;
-      right = subst (λ x. MatchResult x (λ j. ResumesJournal on j (behind_head (frames_of opened.file)) search now (answers.Journal e)) (λ why. answers.Journal e ≡ answers.Journal (error_of why))) (sym read)
+      right = subst (λ x. MatchResult x (λ j. ResumesJournal on j (after_head (frames_of opened.file)) search now (answers.Journal e)) (λ why. answers.Journal e ≡ answers.Journal (error_of why))) (sym read)
           (ap (λ (x : JournalError). answers.Journal x) (sym same));
     }
 

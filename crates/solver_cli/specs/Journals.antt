@@ -50,7 +50,7 @@ module _ {D : Type 0} (on : Ghosts D) where
   LeavesOfText name within path text before now = (now ≡ before)
       ⊎ IsOkAnd ((theory_of name).spelled text) (λ numbers. LeavesNamed path ((theory_of name).program numbers) (head_of (theory_of name) name within numbers) before now)
 
-  -- what a search that goes on from a journal leaves behind its records; what was attached, the first sync and whether its content is told stay
+  -- what a search that goes on from a journal leaves after its records; what was attached, the first sync and whether its content is told stay
   pub record LeavesOpened (Follow : List RecordView → Type 0) (head : HeadView) (old : List RecordView) (before now : D) : Type 0 where
     pub written : List RecordView
     pub gone : SinceAttached on now (λ s. HasGoneOn on (Follow written) head old written now s)

@@ -41,7 +41,7 @@ line text = text ++ 10 ∷ []
 abbrev pub number_line : List ℕ → ℤ → List ℕ
 number_line word z = line (word ++ 32 ∷ decimal_of z)
 
--- each number behind a space
+-- each number after a space
 abbrev pub spaced : List ℕ → List ℕ
 spaced ds = flat_map (λ d. 32 ∷ decimal_of (pos d)) ds
 
@@ -77,7 +77,7 @@ fault_word Word = codes "word"
 abbrev pub place_words : Place → List ℕ
 place_words p = decimal_of (pos p.line) ++ 32 ∷ decimal_of (pos p.column)
 
--- a fault of a text, behind what the text is of
+-- a fault of a text, after what the text is of
 abbrev pub fault_line : List ℕ → InstanceError → List ℕ
 fault_line subject e = line (subject ++ fault_word e.fault ++ 32 ∷ place_words e.place)
 
@@ -155,10 +155,10 @@ abbrev pub count_lines : Option Counts → List ℕ
 count_lines None = []
 count_lines (Some counts) = count_line (codes "taken") counts.taken ++ count_line (codes "finished") counts.finished
 
--- the cover behind a report, or that memory ran out for it
-abbrev pub text_behind : Option (Vec ℕ Global) → List ℕ
-text_behind None = line (codes "out of memory")
-text_behind (Some cover) = cover.items
+-- the cover after a report, or that memory ran out for it
+abbrev pub text_after : Option (Vec ℕ Global) → List ℕ
+text_after None = line (codes "out of memory")
+text_after (Some cover) = cover.items
 
 abbrev pub words_line : WordsError → List ℕ
 words_line errors.Usage = line (codes "words usage")
@@ -181,7 +181,7 @@ journal_line journals.OutOfMemory = line (codes "out of memory")
 -- the text of an answer
 abbrev pub report : Answer → List ℕ
 report (answers.Searched outcome counts) = outcome_lines outcome ++ count_lines counts
-report (answers.Covered outcome counts cover) = outcome_lines outcome ++ (count_lines counts ++ text_behind cover)
+report (answers.Covered outcome counts cover) = outcome_lines outcome ++ (count_lines counts ++ text_after cover)
 report (answers.Digest digest) = line (encode_lower digest)
 report (answers.Drawn text) = text.items
 report (answers.Checked verdict) = verdict_line verdict
@@ -200,7 +200,7 @@ outcome_status (Proved best within) = 0
 outcome_status Infeasible = 1
 outcome_status (Stopped stop incumbent bound) = 2
 
--- want of memory for the cover behind a report goes before what the report says
+-- want of memory for the cover after a report goes before what the report says
 abbrev pub covered_status : Outcome → Option (Vec ℕ Global) → ℕ
 covered_status outcome None = 8
 covered_status outcome (Some cover) = outcome_status outcome

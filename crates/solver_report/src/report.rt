@@ -2,7 +2,7 @@ ghost use Rattle.std.specs.Prelude.{◌≡◌, ◌∷◌, [], ◌++◌, pos, IfO
 ghost use Rattle.std.specs.Fmt.{decimal};
 ghost use Rattle.bound_cover.specs.declared.cover.Verdict.TheVariants.{Refused};
 ghost use Rattle.hex.specs.Hex.{encode_lower};
-ghost use Rattle.solver_report.specs.Report.{report, status_of, outcome_status, covered_status, text_behind, words_status, journal_status, journal_line, line, number_line, spaced, assignment_line, solution_lines, proved_line, outcome_lines, count_line, count_lines, words_line, incumbent_lines, stop_line, fault_word, fault_line, failure_numbers, table_words, refusal_line, why_words, verdict_line, verdict_status, join_line, join_status};
+ghost use Rattle.solver_report.specs.Report.{report, status_of, outcome_status, covered_status, text_after, words_status, journal_status, journal_line, line, number_line, spaced, assignment_line, solution_lines, proved_line, outcome_lines, count_line, count_lines, words_line, incumbent_lines, stop_line, fault_word, fault_line, failure_numbers, table_words, refusal_line, why_words, verdict_line, verdict_status, join_line, join_status};
 
 use crate::answer::{Answer, Counts, JoinRefusal, Outcome, Solution, Stop};
 use bound_cover::{Verdict, Why};
@@ -146,15 +146,15 @@ fn push_covered(
     counts: Option<Counts>,
     cover: &Option<Vec<u8>>,
 ) -> Result<(), OutOfMemory>
-    ensures { OnOk result (out.new.items ≡ out.old.items ++ (outcome_lines outcome.now ++ (count_lines counts ++ text_behind cover.now))) }
+    ensures { OnOk result (out.new.items ≡ out.old.items ++ (outcome_lines outcome.now ++ (count_lines counts ++ text_after cover.now))) }
 {
     push_search(out, outcome, counts)?;
-    push_behind(out, cover)
+    push_after(out, cover)
 }
 
 /// Appends the text of a cover, or that memory ran out for it.
-fn push_behind(out: &mut Vec<u8>, cover: &Option<Vec<u8>>) -> Result<(), OutOfMemory>
-    ensures { OnOk result (out.new.items ≡ out.old.items ++ text_behind cover.now) }
+fn push_after(out: &mut Vec<u8>, cover: &Option<Vec<u8>>) -> Result<(), OutOfMemory>
+    ensures { OnOk result (out.new.items ≡ out.old.items ++ text_after cover.now) }
 {
     match cover {
         Some(text) => out.extend_from_slice(text.as_slice()),

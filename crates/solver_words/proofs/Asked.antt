@@ -29,9 +29,9 @@ next P Q f h (Ok x) p = h x p
 next P Q f h (Err why) p = tt
 
 -- of the first answer nothing is needed
-behind : {X Y : Type 0} (Q : Y → Type 0) (f : X → Result Y Refusal) → ((x : X) → IfOk (f x) Q) → (r : Result X Refusal) → IfOk (and_then f r) Q
-behind Q f h (Ok x) = h x
-behind Q f h (Err why) = tt
+following : {X Y : Type 0} (Q : Y → Type 0) (f : X → Result Y Refusal) → ((x : X) → IfOk (f x) Q) → (r : Result X Refusal) → IfOk (and_then f r) Q
+following Q f h (Ok x) = h x
+following Q f h (Err why) = tt
 
 either : {X : Type 0} (Q : X → Type 0) (b : Bool) (r s : Result X Refusal) → IfOk r Q → IfOk s Q → IfOk (cond b r s) Q
 either Q true r s hr hs = hr
@@ -99,11 +99,11 @@ AreExact settings = IsWithin 1 MOST_WORKERS settings.workers × IsWithin 1 MOST_
 
 settings-exact : (value : Text → Option Text) (stats : Bool) → IfOk (settings_of value stats) AreExact
 settings-exact value stats =
-    behind AreExact _ (λ width.
+    following AreExact _ (λ width.
     next (λ o. IfSome o (IsWithin 1 MOST_WORKERS)) AreExact _ (λ workers few.
     next (λ o. IfSome o (IsWithin 1 MOST_LAYER_PARTS)) AreExact _ (λ parts low.
-    behind AreExact _ (λ budget.
-    behind AreExact _ (λ cutset. (by_default-within MOST_WORKERS (omega arith) workers few, by_default-within MOST_LAYER_PARTS (omega arith) parts low, refl, refl)) (cut_of (value (codes "cutset"))))
+    following AreExact _ (λ budget.
+    following AreExact _ (λ cutset. (by_default-within MOST_WORKERS (omega arith) workers few, by_default-within MOST_LAYER_PARTS (omega arith) parts low, refl, refl)) (cut_of (value (codes "cutset"))))
     (optional (codes "budget") 0 _ (value (codes "budget"))))
     (optional (codes "parts") 1 MOST_LAYER_PARTS (value (codes "parts"))) (optional-within (codes "parts") 1 MOST_LAYER_PARTS (value (codes "parts"))))
     (optional (codes "workers") 1 MOST_WORKERS (value (codes "workers"))) (optional-within (codes "workers") 1 MOST_WORKERS (value (codes "workers"))))
@@ -147,9 +147,9 @@ searched-asked model settings journal part may is = asked-searched model setting
 
 solve-asked : (name : Option Text) (value : Text → Option Text) (flag : Text → Bool) → IfOk (solve_of name value flag) IsPossible
 solve-asked name value flag =
-    behind IsPossible _ (λ model.
+    following IsPossible _ (λ model.
     next AreExact IsPossible _ (λ settings exact.
-    behind IsPossible _ (λ words.
+    following IsPossible _ (λ words.
     next (λ o. IfSome o (IsWithin 0 MOST_DISTANCE)) IsPossible _ (λ within few.
     next MayBePart IsPossible _ (λ part is. searched-asked model (extended settings within _) (value (codes "journal")) part (may-search settings within _ exact few) is)
     (part_asked (value (codes "part"))) (part-asked (value (codes "part"))))
@@ -163,7 +163,7 @@ resume-asked None value flag = tt
 resume-asked (Some path) value flag = next AreExact IsPossible _ (λ settings exact. (may-exactly settings exact, exact.3)) (settings_of value (flag (codes "stats"))) (settings-exact value (flag (codes "stats")))
 
 digest-asked : (name : Option Text) → IfOk (digest_of name) IsPossible
-digest-asked name = behind IsPossible _ (λ model. tt) (model_of name)
+digest-asked name = following IsPossible _ (λ model. tt) (model_of name)
 
 -- an instance is drawn of the sizes of its problem
 drawn-asked : (model : ModelName) (n seed : Option Text) (solved : Bool) (sizes : Option Sizes) → sizes_of model ≡ sizes
@@ -179,7 +179,7 @@ drawn-asked model n seed solved (Some sizes) e =
     below-limit m h = omega arith
 
 generate-asked : (name n seed : Option Text) (solved : Bool) → IfOk (generate_of name n seed solved) IsPossible
-generate-asked name n seed solved = behind IsPossible _ (λ model. drawn-asked model n seed solved (sizes_of model) refl) (model_of name)
+generate-asked name n seed solved = following IsPossible _ (λ model. drawn-asked model n seed solved (sizes_of model) refl) (model_of name)
 
 line-asked : (line : List Argument → Result JobView Refusal) → ((arguments : List Argument) → IfOk (line arguments) IsPossible) → (given : Option (List Argument)) → IfOk (asked line given) IsPossible
 line-asked line h None = tt

@@ -147,7 +147,7 @@ valued_no_flag f is n here = outside f.flags f.valued is.valued_not_flag n here
 
 -- ---- the run over the arguments
 
--- the rows, with those of the arguments behind them, where no option is one that was seen
+-- the rows, with those of the arguments after them, where no option is one that was seen
 abbrev pub with_arguments : Syntax → ℕ → List Text → List Row → List Argument → Option (List Row)
 with_arguments f k seen rows arguments = cond (differ seen (option_names arguments)) (option_map (λ rs. rows ++ rs) (rows_from f k arguments)) None
 

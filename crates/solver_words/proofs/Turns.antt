@@ -116,7 +116,7 @@ uses (k ∷ ks) b next step x y e = refl
 abbrev pub holds : List Row → Option (Text × List Text) → Held
 holds rows p = record { rows = rows; pending = p; skip = 0 }
 
--- the walk between two words, with k positional words behind it
+-- the walk between two words, with k positional words after it
 abbrev pub stands : Bool → Waiting → List Row → Option (Text × List Text) → ℕ → Walk
 stands trailing waiting rows p k = record { held = holds rows p; waiting = waiting; position = k + 1; is_trailing = trailing; stopped = None }
 

@@ -101,7 +101,7 @@ module _ (name : Text) (f : Syntax) (c : List Rule) (fits : Fits f c) where
       ∙ then_same _ _ (λ r. next id r at ∙ ap (option_and_then (rest f (k + 1) (Some (map word xs)))) (positional_settled f c fits x r k id at)
       ∙ sym (word_rest f r k id x (Some (map word xs)) at)) (settled_as c (holds rows p))
 
-  -- behind `--`
+  -- after `--`
   trails : (xs : List Text) (waiting : Waiting) (rows : List Row) (p : Option (Text × List Text)) (k : ℕ)
       → final s (stands true waiting rows p k) xs ≡ option_and_then (rest f k (Some (map word xs))) (settled_as c (holds rows p))
   trails [] waiting rows p k = final-nil s (stands true waiting rows p k) ∙ then_some (settled_as c (holds rows p))

@@ -28,14 +28,14 @@ abbrev pub is_option_word : Text → Bool
 is_option_word (a ∷ b ∷ rest) = a == 45
 is_option_word _ = false
 
--- what stands before the first `=` (61), and behind it where there is one
+-- what stands before the first `=` (61), and after it where there is one
 abbrev pub name_and_value : Text → Text × Option Text
 name_and_value text = (
   before_first (λ b. b == 61) text,
   cond (list_any (λ b. b == 61) text) (Some (after_first (λ b. b == 61) text)) None,
 )
 
--- the name of an option word, with the value behind `=`; none where the word has one dash alone
+-- the name of an option word, with the value after `=`; none where the word has one dash alone
 abbrev pub option_parts : Text → Option (Text × Option Text)
 option_parts (a ∷ b ∷ rest) = cond (a == 45 && b == 45) (Some (name_and_value rest)) None
 option_parts _ = None
@@ -44,7 +44,7 @@ option_parts _ = None
 abbrev pub followed : Argument → Option (List Argument) → Option (List Argument)
 followed p = option_map (λ arguments. p ∷ arguments)
 
--- the arguments from an option word on, by its name and its value; `next` is what the words behind it are, where the option that is
+-- the arguments from an option word on, by its name and its value; `next` is what the words after it are, where the option that is
 -- handed on waits for its value
 abbrev pub from_option : Syntax → Option (Text × Option Text) → (Option Text → Option (List Argument)) → Option (List Argument)
 from_option f None next = None

@@ -176,7 +176,7 @@ abbrev pub cover_of : Bool → Option ℕ → Option ℕ
 cover_of false words = None
 cover_of true words = Some (or_default DEFAULT_COVER_WORDS words)
 
--- the settings with a distance, which is 0 where none is given, and a cover of so many words
+-- the settings with a distance, which is 0 where none is given, and a cover of this many words
 abbrev pub extended : JobSettings → Option ℕ → Option ℕ → JobSettings
 extended settings within words = record settings { within = pos (or_default 0 within); cover_words = words }
 
@@ -242,7 +242,7 @@ digest_line arguments = digest_of (slice_get (words_of arguments) 0)
 abbrev pub generate_line : List Argument → Result JobView Refusal
 generate_line arguments = generate_of (slice_get (words_of arguments) 0) (slice_get (words_of arguments) 1) (slice_get (words_of arguments) 2) (has_flag (codes "solve") arguments)
 
--- what the words behind a command ask for
+-- what the words after a command ask for
 abbrev pub asked : (List Argument → Result JobView Refusal) → Option (List Argument) → Result JobView Refusal
 asked line None = Err usage
 asked line (Some arguments) = line arguments

@@ -29,7 +29,7 @@ fn new_arg<'a>(alloc: Global, name: &'a str, kind: ArgKind) -> Arg<'a>
     }
 }
 
-/// The command with these arguments behind its own.
+/// The command with these arguments after its own.
 fn with_args<'a>(
     alloc: Global,
     mut command: Command<'a>,
@@ -61,7 +61,7 @@ fn new_command<'a>(
     with_args(alloc, command, expected.flags, ArgKind::Flag)
 }
 
-/// What `clap` makes of the words behind the command, which is the first of them.
+/// What `clap` makes of the words after the command, which is the first of them.
 pub(crate) fn parse<'a>(
     alloc: Global,
     expected: &'a CommandSyntax,

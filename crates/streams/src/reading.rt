@@ -78,7 +78,7 @@ fn new_piece(alloc: Global) -> Result<Vec<u8>, AllocError>
     vec![in alloc; 0u8; PIECE]
 }
 
-/// Reads a piece behind `bytes`, and returns how long it is. It is empty only at the end.
+/// Reads a piece after `bytes`, and returns how long it is. It is empty only at the end.
 fn read_piece<S: Source>(
     source: &mut S,
     piece: &mut [u8],

@@ -1,4 +1,4 @@
--- A list of so many items.
+-- A list of this many items.
 use Rattle.std.proofs.Common.{◌≡◌, ℕ, List, length, Bool, cond, Option, Some, None, sym, ap, ◌∙◌}
 use Rattle.serde_json.specs.Data.{Data, Items}
 use Rattle.serde_json.specs.View.{items_view}

@@ -5,12 +5,12 @@ use Rattle.std.proofs.lemmas.Bool.{and_parts, and_from, cond-false, ne_eqb}
 use Rattle.serde_json.specs.Data.{Data, Items, no_items, item}
 use Rattle.serde_json.specs.Events.{items_len}
 use Rattle.serde_json.specs.Find.{get}
-use Rattle.table_model.specs.Document.{cell_of, state_of, next_of, row_of, rows_of, count_at, states_in, state_lists, with_decisions, last_lists, inner_lists, lists_of, within_limits, layer_of, states_behind, layer_then, layers_from}
+use Rattle.table_model.specs.Document.{cell_of, state_of, next_of, row_of, rows_of, count_at, states_in, state_lists, with_decisions, last_lists, inner_lists, lists_of, within_limits, layer_of, states_after, layer_then, layers_from}
 use Rattle.table_model.specs.Laws.Shaped.{HasStates, has_states}
 use Rattle.table_model.specs.Shape.{is_layer, are_layers}
 use Rattle.table_model.specs.Table.{LayerTable, states_of_first}
 
--- the layers that are left, behind those so far
+-- the layers that are left, after those so far
 abbrev pub onto : List LayerTable → Result (List LayerTable) ℕ → Result (List LayerTable) ℕ
 onto before (Ok layers) = Ok (before ++ layers)
 onto before (Err k) = Err k
@@ -94,7 +94,7 @@ layer_is after m d l h =
 -- layers that were read from a list are within the limits, and as many as its items
 pub record AreRead (ds : Items) (ls : List LayerTable) : Type 0 where
   pub within : are_layers ls ≡ true
-  pub first : states_of_first ls ≡ states_behind ds
+  pub first : states_of_first ls ≡ states_after ds
   pub many : length ls ≡ items_len ds
 
 abbrev ok_of : List LayerTable → Result (List LayerTable) ℕ
@@ -109,12 +109,12 @@ err≢ok j ls h = absurd (grind arith)
 ok_is : (ls ms : List LayerTable) → ok_of ls ≡ ok_of ms → ls ≡ ms
 ok_is ls ms h = cc
 
-read_more : (k : ℕ) (d : Data) (ds : Items) (ls : List LayerTable) (o : Option LayerTable) (r : Result (List LayerTable) ℕ) → layer_of (states_behind ds) (states_in d) d ≡ o
+read_more : (k : ℕ) (d : Data) (ds : Items) (ls : List LayerTable) (o : Option LayerTable) (r : Result (List LayerTable) ℕ) → layer_of (states_after ds) (states_in d) d ≡ o
     → ((ms : List LayerTable) → r ≡ Ok ms → AreRead ds ms) → layer_then k o r ≡ Ok ls → AreRead (item d ds) ls
 read_more k d ds ls None r e more h = absurd (err≢ok k ls h)
 read_more k d ds ls (Some l) (Err j) e more h = absurd (err≢ok j ls h)
 read_more k d ds ls (Some l) (Ok ms) e more h =
-    let here = layer_is (states_behind ds) (states_in d) d l e in
+    let here = layer_is (states_after ds) (states_in d) d l e in
     let rest = more ms refl in
     let is : is_layer (states_of_first ms) l ≡ true = subst (λ (n : ℕ). is_layer n l ≡ true) (sym rest.first) here.within in
     let some : 1 ≤ l.states = (has_states l (and_parts _ _ is).0).some in
@@ -129,4 +129,4 @@ read_more k d ds ls (Some l) (Ok ms) e more h =
 pub are_read : (k : ℕ) (ds : Items) (ls : List LayerTable) → layers_from k ds ≡ Ok ls → AreRead ds ls
 are_read k no_items ls h = subst (AreRead no_items) (ok_is [] ls h) (record { within = refl; first = refl; many = refl })
 are_read k (item d ds) ls h =
-    read_more k d ds ls (layer_of (states_behind ds) (states_in d) d) (layers_from (k + 1) ds) refl (λ ms e. are_read (k + 1) ds ms e) h
+    read_more k d ds ls (layer_of (states_after ds) (states_in d) d) (layers_from (k + 1) ds) refl (λ ms e. are_read (k + 1) ds ms e) h

@@ -43,7 +43,7 @@ comma_short : (later : Bool) → length (comma_if later) ≤ 1
 comma_short true = omega arith
 comma_short false = omega arith
 
--- a list of items of fewer than so many bytes each
+-- a list of items of fewer than this many bytes each
 items_short : {X : Type 0} (tree : X → Data) (test : X → Bool) (most : ℕ) → ((x : X) → test x ≡ true → length (compact_text (tree x)) + 1 ≤ most) → (later : Bool) (xs : List X) → list_all test xs ≡ true
     → length (items_text later (items_of (map tree xs))) ≤ most * length xs + 1
 items_short tree test most each later [] h = omega arith

@@ -7,7 +7,7 @@ use Rattle.std.proofs.lemmas.Int.{ints}
 use Rattle.serde_json.specs.Data.{Data, Items, item}
 use Rattle.serde_json.specs.Events.{items_len}
 use Rattle.serde_json.specs.View.{items_of}
-use Rattle.table_model.specs.Document.{natural_of, whole_of, cell_of, state_of, next_of, list_of, row_of, rows_of, count_at, states_in, state_lists, with_decisions, last_lists, inner_lists, lists_of, within_limits, layer_of, states_or_most, states_behind, layer_then, layers_from, root_value_of, items_in, Outline, outline_of}
+use Rattle.table_model.specs.Document.{natural_of, whole_of, cell_of, state_of, next_of, list_of, row_of, rows_of, count_at, states_in, state_lists, with_decisions, last_lists, inner_lists, lists_of, within_limits, layer_of, states_or_most, states_after, layer_then, layers_from, root_value_of, items_in, Outline, outline_of}
 use Rattle.table_model.specs.Laws.Shaped.{is_between-is, IsTable, HasStates, has_states, HasDecisions, has_decisions}
 use Rattle.table_model.specs.Printing.{cell_tree, state_tree, next_tree, row_tree, rows_tree, last_tree, inner_tree, layer_tree, tree_of}
 use Rattle.table_model.specs.Reading.{table_of, table_with, table_in, tested, tested_by}
@@ -172,9 +172,9 @@ states_are l few =
     (λ _. ap (λ (o : Option ℕ). unwrap_or o 0) (count_back l.states few))
 
 -- how many states the next layer says to have
-behind_are : (ls : List LayerTable) → are_layers ls ≡ true → states_behind (items_of (map layer_tree ls)) ≡ states_of_first ls
-behind_are [] h = refl
-behind_are (l ∷ ls) h =
+after_are : (ls : List LayerTable) → are_layers ls ≡ true → states_after (items_of (map layer_tree ls)) ≡ states_of_first ls
+after_are [] h = refl
+after_are (l ∷ ls) h =
     let s = has_states l (and_parts _ _ (and_parts _ _ h).0).0 in
     let some : 1 ≤ l.states = s.some in
     ap states_or_most (states_are l s.few) ∙ cond-false _ _ _ (ne_eqb l.states 0 (λ e. omega (arith, some, e)))
@@ -193,7 +193,7 @@ layers_back k [] h = refl
 layers_back k (l ∷ ls) h =
     let parts = and_parts _ _ h in
     let d = layer_tree l in
-    ap (λ (m : ℕ). layer_then k (layer_of m (states_in d) d) (layers_from (k + 1) (items_of (map layer_tree ls)))) (behind_are ls parts.1)
+    ap (λ (m : ℕ). layer_then k (layer_of m (states_in d) d) (layers_from (k + 1) (items_of (map layer_tree ls)))) (after_are ls parts.1)
     ∙ ap₂ (λ (o : Option LayerTable) (r : Result (List LayerTable) ℕ). layer_then k o r) (layer_back (states_of_first ls) l parts.0 (first_few ls parts.1)) (layers_back (k + 1) ls parts.1)
 
 -- ---- the document

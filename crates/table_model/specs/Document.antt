@@ -44,7 +44,7 @@ row_of f d = option_and_then (list_of f) (as_array d)
 abbrev pub rows_of : {X : Type 0} → (Data → Option X) → Data → Option (List (List X))
 rows_of f d = option_and_then (list_of (row_of f)) (as_array d)
 
--- an object with so many members
+-- an object with this many members
 abbrev pub has_members : ℕ → Data → Bool
 has_members many d = unwrap_or (option_map (λ ms. nat_eq (members_len ms) many) (as_object d)) false
 
@@ -90,17 +90,17 @@ lists_of after m d = cond (nat_eq after 0) (last_lists m d) (inner_lists m d)
 abbrev pub within_limits : ℕ → LayerTable → Option LayerTable
 within_limits after l = cond (is_layer after l) (Some l) None
 
--- a layer with so many states, where the next one has so many, and 0 says that there is none
+-- a layer with this many states, where the next one has this many, and 0 says that there is none
 abbrev pub layer_of : ℕ → ℕ → Data → Option LayerTable
 layer_of after m d = option_and_then (within_limits after) (lists_of after m d)
 
--- how many states the layer behind has at most: what it says, 32 where it says nothing right, and 0 where there is none
+-- how many states the layer after has at most: what it says, 32 where it says nothing right, and 0 where there is none
 abbrev pub states_or_most : ℕ → ℕ
 states_or_most m = cond (nat_eq m 0) 32 m
 
-abbrev pub states_behind : Items → ℕ
-states_behind no_items = 0
-states_behind (item d ds) = states_or_most (states_in d)
+abbrev pub states_after : Items → ℕ
+states_after no_items = 0
+states_after (item d ds) = states_or_most (states_in d)
 
 abbrev pub layer_then : ℕ → Option LayerTable → Result (List LayerTable) ℕ → Result (List LayerTable) ℕ
 layer_then k None rest = Err k
@@ -110,7 +110,7 @@ layer_then k (Some l) (Err j) = Err j
 -- the layers of a list whose first has the number k, or the number of the first that is none
 abbrev pub layers_from : ℕ → Items → Result (List LayerTable) ℕ
 layers_from k no_items = Ok []
-layers_from k (item d ds) = layer_then k (layer_of (states_behind ds) (states_in d) d) (layers_from (k + 1) ds)
+layers_from k (item d ds) = layer_then k (layer_of (states_after ds) (states_in d) d) (layers_from (k + 1) ds)
 
 -- a root value of at most 2^50 in size
 abbrev pub root_value_of : Data → Option ℤ

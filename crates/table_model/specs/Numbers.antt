@@ -10,7 +10,7 @@ put_natural n rest = pos n ∷ rest
 abbrev pub put_whole : ℤ → List ℤ → List ℤ
 put_whole z rest = z ∷ rest
 
--- an option behind 0 or 1
+-- an option after 0 or 1
 abbrev pub put_option : {X : Type 0} → (X → List ℤ → List ℤ) → Option X → List ℤ → List ℤ
 put_option put None rest = pos 0 ∷ rest
 put_option put (Some x) rest = pos 1 ∷ put x rest
@@ -19,7 +19,7 @@ abbrev pub put_each : {X : Type 0} → (X → List ℤ → List ℤ) → List X 
 put_each put [] rest = rest
 put_each put (x ∷ xs) rest = put x (put_each put xs rest)
 
--- a list behind its length
+-- a list after its length
 abbrev pub put_list : {X : Type 0} → (X → List ℤ → List ℤ) → List X → List ℤ → List ℤ
 put_list put xs rest = pos (length xs) ∷ put_each put xs rest
 

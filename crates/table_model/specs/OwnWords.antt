@@ -3,7 +3,7 @@ use Rattle.std.specs.Prelude.{ℕ, ◌+◌, ℤ, pos, ◌+ℤ◌, nat_eq, cond, 
 use Rattle.table_model.specs.Table.{LayerTable, Table, layer_at, transition_at}
 use Rattle.table_model.specs.declared.transition.Transition.{Transition}
 
--- a gain, and what is gained behind it
+-- a gain, and what is gained after it
 abbrev pub gain_then : Option Transition → (ℕ → Option ℤ) → Option ℤ
 gain_then None rest = None
 gain_then (Some w) rest = option_map (λ z. w.gain +ℤ z) (rest w.next)

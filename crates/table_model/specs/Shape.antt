@@ -25,11 +25,11 @@ abbrev pub is_next_between : ℤ → ℤ → Option ℕ → Bool
 is_next_between least most None = true
 is_next_between least most (Some n) = is_state_between least most n
 
--- so many cells, each of which passes
+-- this many cells, each of which passes
 abbrev pub is_row : {X : Type 0} → (X → Bool) → ℕ → List X → Bool
 is_row test width row = nat_eq (length row) width && list_all test row
 
--- so many rows of so many cells, each of which passes
+-- this many rows of this many cells, each of which passes
 abbrev pub is_grid : {X : Type 0} → (X → Bool) → ℕ → ℕ → List (List X) → Bool
 is_grid test height width rows = nat_eq (length rows) height && list_all (is_row test width) rows
 
@@ -70,7 +70,7 @@ row_alike l s = holds_at_all (alike_at l s) 0 l.choices
 abbrev pub are_all_alike : LayerTable → Bool
 are_all_alike l = holds_at_all (row_alike l) 0 l.states
 
--- next states are among so many
+-- next states are among this many
 abbrev pub has_nexts : ℕ → LayerTable → Bool
 has_nexts after l = is_grid (is_next_between (pos 0) (pos after -ℤ pos 1)) l.states l.choices l.next
 
@@ -85,7 +85,7 @@ are_decisions after l = is_count l.choices && has_nexts after l && has_gains l &
 abbrev pub is_last : LayerTable → Bool
 is_last l = nat_eq l.choices 0 && nat_eq (length l.next) 0 && nat_eq (length l.gain) 0
 
--- a layer is within the limits; the next one has so many states, and 0 says that there is none
+-- a layer is within the limits; the next one has this many states, and 0 says that there is none
 abbrev pub is_layer : ℕ → LayerTable → Bool
 is_layer after l = are_states l && cond (nat_eq after 0) (is_last l) (are_decisions after l)
 

@@ -45,13 +45,13 @@ transition_at l s d = transition_of (cell_at l.next None s d) (cell_at l.gain No
 abbrev pub no_layer : LayerTable
 no_layer = record { states = 0; choices = 0; gap = []; merge = []; rough = []; next = []; gain = [] }
 
--- the layer k, and one without states behind the last
+-- the layer k, and one without states after the last
 abbrev pub layer_at : List LayerTable → ℕ → LayerTable
 layer_at layers k = slice_index_or layers k no_layer
 
--- the layer behind the layer k; the last layer, which has no decisions, stands for its own
-abbrev pub layer_behind : List LayerTable → ℕ → LayerTable
-layer_behind layers k = slice_index_or layers (k + 1) (layer_at layers k)
+-- the layer after the layer k; the last layer, which has no decisions, stands for its own
+abbrev pub layer_after : List LayerTable → ℕ → LayerTable
+layer_after layers k = slice_index_or layers (k + 1) (layer_at layers k)
 
 -- how many states the first of the layers has, and 0 where there is none
 abbrev pub states_of_first : List LayerTable → ℕ

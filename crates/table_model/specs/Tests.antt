@@ -2,7 +2,7 @@
 use Rattle.std.specs.Prelude.{ℕ, zero, suc, ◌+◌, max, ℤ, pos, ◌+ℤ◌, int_le, nat_eq, Bool, true, false, cond, ◌&&◌, ◌||◌, not, is_some, List, length, Option, Some, None}
 use Rattle.dp_model.specs.Numbers.{int_same}
 use Rattle.table_model.specs.Places.{or_else, first_of, holds_at_all, holds_at_one}
-use Rattle.table_model.specs.Table.{LayerTable, layer_at, layer_behind, gap_at, merge_at, rough_at, transition_at}
+use Rattle.table_model.specs.Table.{LayerTable, layer_at, layer_after, gap_at, merge_at, rough_at, transition_at}
 use Rattle.table_refusal.specs.declared.failure.Failure.{Failure}
 use Rattle.table_refusal.specs.declared.failure.Law.{Law}
 use Rattle.table_refusal.specs.declared.failure.Law.TheVariants.{GapIsSound, OwnGapIsZero, MergeCovers, RoughBounds, GapsAddUp}
@@ -86,7 +86,7 @@ adds_up l a c = holds_at_all (adds_up_by l a c) 0 l.states
 
 -- ---- all of them
 
--- the test of a law at a layer, with the layer behind it
+-- the test of a law at a layer, with the layer after it
 abbrev pub holds : Law → LayerTable → LayerTable → ℕ → ℕ → Bool
 holds GapIsSound l after a s = is_sound_gap l after a s (gap_at l a s)
 holds OwnGapIsZero l after a s = is_own_gap l a s
@@ -122,7 +122,7 @@ layer_failure l after k =
     (failure_of l after k GapsAddUp))))
 
 abbrev pub failure_in : List LayerTable → ℕ → Option Failure
-failure_in layers k = layer_failure (layer_at layers k) (layer_behind layers k) k
+failure_in layers k = layer_failure (layer_at layers k) (layer_after layers k) k
 
 -- the first test that fails, in order of layer, law, first and second number
 abbrev pub first_failure : List LayerTable → Option Failure

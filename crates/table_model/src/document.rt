@@ -3,7 +3,7 @@
 ghost use Rattle.std.specs.Prelude.{◌≡◌, ◌≤◌, true, length, Ok, option_and_then, option_map, IfOk, IfErr, IfSome, map};
 ghost use Rattle.serde_json.specs.Find.{get};
 ghost use Rattle.serde_json.specs.View.{view, items_view};
-ghost use Rattle.table_model.specs.Document.{has_members, count_at, states_in, row_of, rows_of, cell_of, state_lists, with_decisions, last_lists, inner_lists, lists_of, within_limits, layer_of, states_or_most, states_behind, layers_from, is_layer_count, items_in, root_value_of, outline_of};
+ghost use Rattle.table_model.specs.Document.{has_members, count_at, states_in, row_of, rows_of, cell_of, state_lists, with_decisions, last_lists, inner_lists, lists_of, within_limits, layer_of, states_or_most, states_after, layers_from, is_layer_count, items_in, root_value_of, outline_of};
 ghost use Rattle.table_model.specs.Layers.{LayersFail};
 ghost use Rattle.table_model.specs.Shape.{is_small, are_layers};
 ghost use Rattle.table_model.specs.Outlines.{outline_shown};
@@ -23,7 +23,7 @@ pub(crate) struct Outline<'v> {
     pub(crate) layers: &'v [Value],
 }
 
-/// Whether the value is an object with so many members.
+/// Whether the value is an object with this many members.
 fn has_members(value: &Value, many: usize) -> bool
     ensures { result ≡ has_members many (view value.now) }
 {
@@ -145,7 +145,7 @@ fn lists(alloc: Global, value: &Value, states: u32, after: u32) -> Result<Option
     }
 }
 
-/// A layer with so many states, where the next one has so many, and 0 says that there is none.
+/// A layer with this many states, where the next one has this many, and 0 says that there is none.
 fn layer(alloc: Global, value: &Value, states: u32, after: u32) -> Result<Option<Layer>, AllocError>
     ensures { IfOk result (λ o. o ≡ layer_of after states (view value.now)) }
 {
@@ -167,8 +167,8 @@ fn states_in(value: &Value) -> u32
 }
 
 /// How many states the first of these layers has at most, and 0 where there is none.
-fn states_behind(values: &[Value]) -> u32
-    ensures { result ≡ states_behind (items_view values.now) }
+fn states_after(values: &[Value]) -> u32
+    ensures { result ≡ states_after (items_view values.now) }
 {
     match values.first() {
         Some(value) => match states_in(value) {
@@ -191,7 +191,7 @@ pub(crate) fn layers(alloc: Global, values: &[Value]) -> Result<Vec<Layer>, Read
     let mut left = values;
     'layers: while let Some((value, rest)) = left.split_first() {
         let states = states_in(value);
-        let Some(layer) = layer(alloc, value, states, states_behind(rest))? else {
+        let Some(layer) = layer(alloc, value, states, states_after(rest))? else {
             let layer = Some(k);
             return Err(ReadTableError::Refused(TableError::Shape { layer }));
         };

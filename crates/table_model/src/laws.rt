@@ -13,11 +13,11 @@ use table_refusal::{Failure, Law};
 // ---- a gap is sound
 
 /// Whether `v` and the gap gain at least what `w` gains, with the gap between the next states.
-fn is_enough(w: i64, v: i64, gap: i64, behind: Option<i64>) -> bool
-    ensures { result ≡ is_enough w v gap behind }
+fn is_enough(w: i64, v: i64, gap: i64, following: Option<i64>) -> bool
+    ensures { result ≡ is_enough w v gap following }
 {
-    match behind {
-        Some(behind) => are_sums_ordered(w, behind, v, gap),
+    match following {
+        Some(following) => are_sums_ordered(w, following, v, gap),
         None => false,
     }
 }
@@ -28,8 +28,8 @@ fn is_match(layer: &Layer, after: &Layer, a: u32, w: Transition, gap: i64, e: u3
 {
     match layer.transition(a as usize, e as usize) {
         Some(v) => {
-            let behind = after.gap(v.next as usize, w.next as usize);
-            is_enough(w.gain, v.gain, gap, behind)
+            let following = after.gap(v.next as usize, w.next as usize);
+            is_enough(w.gain, v.gain, gap, following)
         }
         None => false,
     }
@@ -135,14 +135,14 @@ fn merge_covers(layer: &Layer, x: u32, s: u32) -> bool
 
 // ---- rough bounds
 
-/// Whether the rough bound is at least the gain with the rough bound behind it, where that is there.
-fn bounds_next(rough: Option<i64>, gain: i64, behind: Option<i64>) -> bool
-    ensures { result ≡ bounds_next rough gain behind }
+/// Whether the rough bound is at least the gain with the rough bound after it, where that is there.
+fn bounds_next(rough: Option<i64>, gain: i64, following: Option<i64>) -> bool
+    ensures { result ≡ bounds_next rough gain following }
 {
-    match (rough, behind) {
+    match (rough, following) {
         (_, None) => true,
         (None, Some(_)) => false,
-        (Some(bound), Some(behind)) => is_sum_at_most(gain, behind, bound),
+        (Some(bound), Some(following)) => is_sum_at_most(gain, following, bound),
     }
 }
 

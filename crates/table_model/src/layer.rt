@@ -34,7 +34,7 @@ impl Model for Layer {
     } };
 }
 
-/// The cell of a row, and `outside` behind its end.
+/// The cell of a row, and `outside` after its end.
 fn cell_of_row<T: Copy + Drop>(row: &[T], j: usize, outside: T) -> T
     ensures { result ≡ slice_index_or row.now j outside }
 {

@@ -15,7 +15,7 @@ fn write(out: &mut [i64], state: u32)
     out.copy_from_slice(&[i64::from(state)]);
 }
 
-/// Whether a row is the number of one of so many states.
+/// Whether a row is the number of one of this many states.
 fn is_number(states: u32, s: &[i64]) -> bool
     requires { length s.now ≡ 1 }
     ensures { result ≡ is_number states s.now }

@@ -32,14 +32,14 @@ fn are_between<T: Cell>(row: &[T], least: i64, most: i64) -> bool
     true
 }
 
-/// Whether there are so many cells, each of them null or between the two numbers.
+/// Whether there are this many cells, each of them null or between the two numbers.
 fn is_row<T: Cell>(row: &[T], width: u32, least: i64, most: i64) -> bool
     ensures { result ≡ is_row (T.between least most) width row.now }
 {
     row.len() == width as usize && are_between(row, least, most)
 }
 
-/// Whether each row has so many cells, each of them null or between the two numbers.
+/// Whether each row has this many cells, each of them null or between the two numbers.
 #[tactic(auto, using(crate::proofs::Grids::pass_next, crate::proofs::Grids::pass_not, crate::proofs::Grids::pass_end))]
 fn are_rows<T: Cell>(rows: &[Vec<T>], width: u32, least: i64, most: i64) -> bool
     ensures { result ≡ list_all (is_row (T.between least most) width) (map (λ r. r.items) rows.now) }
@@ -52,7 +52,7 @@ fn are_rows<T: Cell>(rows: &[Vec<T>], width: u32, least: i64, most: i64) -> bool
     true
 }
 
-/// Whether there are so many rows of so many cells, each of them null or between the two numbers.
+/// Whether there are this many rows of this many cells, each of them null or between the two numbers.
 fn is_grid<T: Cell>(rows: &[Vec<T>], height: u32, width: u32, least: i64, most: i64) -> bool
     ensures { result ≡ is_grid (T.between least most) height width (map (λ r. r.items) rows.now) }
 {
@@ -66,7 +66,7 @@ fn is_count(number: u32) -> bool
     1 <= number && number <= 32
 }
 
-/// The number of the last of so many states.
+/// The number of the last of this many states.
 fn last_of(states: u32) -> i64
     ensures { result ≡ pos states -ℤ pos 1 }
 {
@@ -149,7 +149,7 @@ fn are_all_alike(layer: &Layer) -> bool
     true
 }
 
-/// Whether the layer has one of so many next states, or null, for each decision.
+/// Whether the layer has one of this many next states, or null, for each decision.
 fn has_nexts(after: u32, layer: &Layer) -> bool
     ensures { result ≡ has_nexts after layer.now }
 {
@@ -170,7 +170,7 @@ fn has_gains(layer: &Layer) -> bool
     )
 }
 
-/// Whether the layer has next states, among so many, and gains for its decisions.
+/// Whether the layer has next states, among this many, and gains for its decisions.
 fn are_decisions(after: u32, layer: &Layer) -> bool
     ensures { result ≡ are_decisions after layer.now }
 {
@@ -184,7 +184,7 @@ fn is_last(layer: &Layer) -> bool
     layer.choices == 0 && layer.next.is_empty() && layer.gain.is_empty()
 }
 
-/// Whether the layer is within the limits, where the next one has so many states, and 0 says that there is none.
+/// Whether the layer is within the limits, where the next one has this many states, and 0 says that there is none.
 pub(crate) fn is_layer(after: u32, layer: &Layer) -> bool
     ensures { result ≡ is_layer after layer.now }
 {

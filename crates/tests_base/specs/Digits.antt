@@ -4,7 +4,7 @@ use Rattle.tokens.specs.Text.{TextState}
 use Rattle.tokens.specs.declared.instance_error.InstanceError.{InstanceError}
 use Rattle.tokens.specs.Grammar.{number_then, end_then, part_then, times}
 
--- one digit behind others
+-- one digit after others
 unfoldable pub digit_at : List ℤ → TextState → Result (List ℤ × TextState) InstanceError
 digit_at digits s = number_then (pos 0) (pos 9) s (λ z t. Ok (digits ++ z ∷ [], t))
 

@@ -80,7 +80,7 @@ fn items(rt: &impl Abort, alloc: Global, text: &[u8]) -> Knapsack {
     model.expect(rt, "the items")
 }
 
-/// The first board of a problem for one worker, who may have so many subproblems, with a distance.
+/// The first board of a problem for one worker, who may have this many subproblems, with a distance.
 fn first_board<M: DpModel>(
     alloc: Global,
     model: M,

@@ -187,7 +187,7 @@ fn scattered(number: u64) -> i64 {
     (number.wrapping_mul(0x9e37_79b9_7f4a_7c15) >> 40) as i64
 }
 
-/// Pushes so many subproblems of different states with scattered bounds. Whether each entered.
+/// Pushes this many subproblems of different states with scattered bounds. Whether each entered.
 fn push_many(alloc: Global, fringe: &mut Fringe, count: u32) -> Result<bool, AllocError>
     requires { Each (λ o. o.ticket < 0) fringe.old.open_ones }
 {
@@ -202,7 +202,7 @@ fn push_many(alloc: Global, fringe: &mut Fringe, count: u32) -> Result<bool, All
     Ok(all)
 }
 
-/// Pops so many. Whether no bound is greater than the one before it.
+/// Pops this many. Whether no bound is greater than the one before it.
 fn pop_many(fringe: &mut Fringe, count: u32) -> bool {
     let mut last = i64::MAX;
     for _ in 0..count {
@@ -214,7 +214,7 @@ fn pop_many(fringe: &mut Fringe, count: u32) -> bool {
     true
 }
 
-/// Whether so many that are pushed all enter, have ranks, and are popped again.
+/// Whether this many that are pushed all enter, have ranks, and are popped again.
 fn holds_many(alloc: Global, count: u32) -> Result<bool, AllocError> {
     let mut fringe = Fringe::new(alloc, 1);
     let entered = push_many(alloc, &mut fringe, count);

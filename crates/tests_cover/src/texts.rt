@@ -39,7 +39,7 @@ const FAULTS: &[Faulty] = &[
         })),
     ),
     (
-        "a token behind the end",
+        "a token after the end",
         b"proved\nvalue 4\nassignment 1\ncover knapsack\ninstance 8\n1 1\n4 1\nlayer 0 1\n4 ; 1 ; 0 0 1 0\nlayer 1 1\n0 ; 1\nend\nx",
         CoverError::Text(TextError::Trailing(Place {
             line: 13,
@@ -47,7 +47,7 @@ const FAULTS: &[Faulty] = &[
         })),
     ),
     (
-        "a byte behind the end that is not ASCII",
+        "a byte after the end that is not ASCII",
         b"proved\nvalue 4\nassignment 1\ncover knapsack\ninstance 8\n1 1\n4 1\nlayer 0 1\n4 ; 1 ; 0 0 1 0\nlayer 1 1\n0 ; 1\nend\n\xc3",
         CoverError::Text(TextError::NotAscii(Place {
             line: 13,
@@ -55,7 +55,7 @@ const FAULTS: &[Faulty] = &[
         })),
     ),
     (
-        "a row's line ends behind its bound",
+        "a row's line ends after its bound",
         b"proved\nvalue 4\nassignment 1\ncover knapsack\ninstance 8\n1 1\n4 1\nlayer 0 1\n4 ; 1 ; 0 0 1 0\nlayer 1 1\n0\nend\n",
         CoverError::Word(Place {
             line: 12,
@@ -171,7 +171,7 @@ const FAULTS: &[Faulty] = &[
         })),
     ),
     (
-        "a token behind BYTES",
+        "a token after BYTES",
         b"proved\nvalue 4\nassignment 1\ncover knapsack\ninstance 8 1\n1 1\n4 1\nlayer 0 1\n4 ; 1 ; 0 0 1 0\nlayer 1 1\n0 ; 1\nend\n",
         CoverError::Text(TextError::Trailing(Place {
             line: 5,

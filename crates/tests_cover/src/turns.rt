@@ -43,7 +43,7 @@ const CASES: &[Case] = &[
         }),
     ),
     (
-        "a decision that is listed twice behind a row that fails",
+        "a decision that is listed twice after a row that fails",
         b"layer 0 1\n4 ; 1 ; 0 0 1 1\nlayer 1 2\n2 ; 1 ; 0 0 1 1 0 0\n0 ; 0 ; 0 1\nlayer 2 2\n0 ; 1\n0 ; 0\nend\n",
         Verdict::Refused(Why::Target {
             layer: 1,
@@ -71,7 +71,7 @@ const CASES: &[Case] = &[
         Verdict::Refused(Why::Root),
     ),
     (
-        "a layer too many, behind one that fails",
+        "a layer too many, after one that fails",
         b"layer 0 1\n3 ; 1 ; 0 0 1 1\nlayer 1 2\n3 ; 1 ; 0 0 1 1\n0 ; 0 ; 0 1\nlayer 2 2\n0 ; 1\n0 ; 0\nlayer 3 1\n0 ; 0\nend\n",
         Verdict::Refused(Why::Layers),
     ),
@@ -109,20 +109,20 @@ fn verdict_in_turn<M: DpModel>(
 }
 
 /// The verdict on the cover that is read first.
-fn verdict_behind<M: DpModel>(rt: &impl Abort, alloc: Global, model: &M, text: &[u8]) -> Verdict {
+fn verdict_after<M: DpModel>(rt: &impl Abort, alloc: Global, model: &M, text: &[u8]) -> Verdict {
     let held = read(rt, alloc, text);
     let within = u32::try_from(held.within).expect(rt, "a distance of 32 bits");
     let assignment = held.assignment.as_slice();
     verdict_on(rt, alloc, model, &held.cover, held.best, within, assignment)
 }
 
-/// Both verdicts behind the head are that of the case.
+/// Both verdicts after the head are that of the case.
 fn has_verdicts<M: DpModel>(rt: &impl Abort, alloc: Global, model: &M, head: &[u8], case: &Case) {
     let (what, sections, verdict) = *case;
     let text = joined(rt, alloc, head, sections);
     let in_turn = verdict_in_turn(rt, alloc, model, text.as_slice());
-    let behind = verdict_behind(rt, alloc, model, text.as_slice());
-    assert_eq!(rt; (in_turn, behind), (Ok(verdict), verdict), "at {what}");
+    let following = verdict_after(rt, alloc, model, text.as_slice());
+    assert_eq!(rt; (in_turn, following), (Ok(verdict), verdict), "at {what}");
 }
 
 #[test]

@@ -113,7 +113,7 @@ fn has_count(rt: &impl Abort, diagram: &Diagram, depth: usize, wanted: usize) {
     assert_eq!(rt; diagram.nodes(depth), wanted);
 }
 
-/// Each of the depths has so many nodes.
+/// Each of the depths has this many nodes.
 fn has_counts(rt: &impl Abort, diagram: &Diagram, counts: &[(usize, usize)]) {
     for (depth, count) in counts.iter().copied() {
         has_count(rt, diagram, depth, count);

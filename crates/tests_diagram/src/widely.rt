@@ -31,7 +31,7 @@ fn first_of(rt: &impl Abort, diagram: &Diagram, depth: usize) -> (usize, i64, Op
     (count, diagram.value(depth, 0), diagram.suffix(depth, 0))
 }
 
-/// The diagram in so many parts is the plain one, as far as it is told. Layer 8 has as many nodes as eight items have choices, and
+/// The diagram in this many parts is the plain one, as far as it is told. Layer 8 has as many nodes as eight items have choices, and
 /// layer 9 is the first one that is reduced.
 fn is_same_in_parts<R: Abort + Threads + Sync, M: DpModel>(
     rt: &R,

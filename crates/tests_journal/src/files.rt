@@ -27,7 +27,7 @@ const SEARCH: &str = "\
     9d30276e3e0460682ac8fa61e3b5101030000000c000000000000000200000000fc5722428d3520afa8a144fea6daac\
     86f8cf6021db34e706d401b5fb845b190e00";
 
-/// Its records behind the head.
+/// Its records after the head.
 const RECORDS: &str = "Records { within: 0, first: 75, records: [\
     Improve { value: 110, decisions: [1, 1, 0] }, \
     Finish { ticket: 0, children: [\
@@ -156,7 +156,7 @@ fn go_on<D: Disk>(rt: &impl Abort, alloc: Global, disk: &mut D, begun: Tail) -> 
     5
 }
 
-/// Writes the journal of that search, and tells how many of its records behind the head were acknowledged.
+/// Writes the journal of that search, and tells how many of its records after the head were acknowledged.
 fn search<D: Disk>(rt: &impl Abort, alloc: Global, disk: &mut D) -> Option<usize> {
     let tail = begun(rt, alloc, disk)?;
     Some(go_on(rt, alloc, disk, tail))
@@ -296,7 +296,7 @@ fn left(rt: &impl Abort, alloc: Global, disk: MemDisk, fill: &[u8]) -> Count {
     count(rt, alloc, &mut crashed)
 }
 
-/// How many records are acknowledged where the disk stops after so many calls, and what a crash then leaves.
+/// How many records are acknowledged where the disk stops after this many calls, and what a crash then leaves.
 fn stopped(rt: &impl Abort, alloc: Global, fill: &[u8], calls: u64) -> (Option<usize>, Count) {
     let mut disk = MemDisk::fused(Vec::new(alloc), calls);
     let acknowledged = search(rt, alloc, &mut disk);
@@ -313,7 +313,7 @@ fn leaves(acknowledged: Option<usize>, left: Count) -> bool {
     }
 }
 
-/// A stop after so many calls leaves what was acknowledged, and that is all exactly from 29 calls on.
+/// A stop after this many calls leaves what was acknowledged, and that is all exactly from 29 calls on.
 fn stops(rt: &impl Abort, alloc: Global, fill: &[u8], calls: u64) {
     let (acknowledged, left) = stopped(rt, alloc, fill, calls);
     let found = (leaves(acknowledged, left), acknowledged == Some(5));

@@ -1,4 +1,4 @@
-//! A board that is kept in a journal, on a disk that passes so many calls and then fails every one.
+//! A board that is kept in a journal, on a disk that passes this many calls and then fails every one.
 
 ghost use Rattle.std.specs.Prelude.{◌≡◌, [], pos, Some, None, IfOk};
 ghost use Rattle.dp_model.specs.Dp.{Dp};
@@ -80,7 +80,7 @@ fn offered_first<M: DpModel, D: Disk>(
     (answer, last_known(board).1, disk)
 }
 
-/// What that offer does on a disk that passes so many calls.
+/// What that offer does on a disk that passes this many calls.
 fn offered(rt: &impl Abort, alloc: Global, calls: u64) -> Result<Offered, JournalError> {
     let mut disk = MemDisk::fused(Vec::new(alloc), calls);
     let tail = begun(rt, alloc, &mut disk)?;

@@ -228,7 +228,7 @@ pub(crate) fn items(rt: &impl Abort, alloc: Global) -> Knapsack {
     model.expect(rt, "the items")
 }
 
-/// Adds a record with its right digest behind those of the file, and gives the digest.
+/// Adds a record with its right digest after those of the file, and gives the digest.
 fn add(
     rt: &impl Abort,
     alloc: Global,

@@ -27,7 +27,7 @@ use turn::NoTurn;
 /// The width of the diagrams, that of the settings.
 const WIDTH: u32 = 1;
 
-/// How long a file is, how many records stand in it behind the head, and how many behind the last snapshot.
+/// How long a file is, how many records stand in it after the head, and how many after the last snapshot.
 type Written = (usize, usize, usize);
 
 /// The board at the start of a search.

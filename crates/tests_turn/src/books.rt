@@ -54,7 +54,7 @@ fn first_board<M: DpModel>(rt: &impl Abort, alloc: Global, model: &Arc<M>) -> Ke
     )
 }
 
-/// A desk whose book has so many words at most.
+/// A desk whose book has this many words at most.
 fn desk_with_book<M: DpModel>(rt: &impl Abort, alloc: Global, model: &M, words: u64) -> Vec<Desk>
     ensures one { vec_len result ≡ 1 }
     ensures prepared { All (IsPreparedDesk (M.meaning (M.numbers model.now)) WIDTH) result.items }
@@ -95,7 +95,7 @@ fn finished_in<M: DpModel>(kept: Kept<M, MemDisk>) -> u64 {
     finished
 }
 
-/// What one worker collects, in a search of three items, whose book has so many words at most.
+/// What one worker collects, in a search of three items, whose book has this many words at most.
 pub fn collected<R: Threads + Wait + Sync + Abort>(
     rt: &R,
     alloc: Global,

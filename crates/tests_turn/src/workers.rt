@@ -165,7 +165,7 @@ pub fn close(turn: Turn<Counter>, seats: Vec<Seat<Counter>>) -> Counter
     turn.close(seats)
 }
 
-/// Counts to the limit with so many workers. Afterwards no worker has a number out.
+/// Counts to the limit with this many workers. Afterwards no worker has a number out.
 pub fn count_all<R: Threads + Wait + Sync>(
     rt: &R,
     alloc: Global,

@@ -49,7 +49,7 @@ times_done step count i made s all = until_done never step count i made s all
 
 -- ---- readers of instances
 
--- behind a number the chain goes on
+-- after a number the chain goes on
 pub number_then_ok : {B : Type 0} (least greatest z : ℤ) (s : TextState) (more : ℤ → TextState → Result B InstanceError) → Ok z ≡ number_at least greatest s → number_then least greatest s more ≡ more z (after_token s)
 number_then_ok least greatest z s more e = rw (← e) refl
 
@@ -62,7 +62,7 @@ unfolding times
 times_fails errors.OutOfMemory step count i made s total below fails so_far = tt
 times_fails (errors.Text fault) step count i made s total below fails so_far = sym so_far ∙ until_faults never step count i made s fault refl below fails
 
--- the same of a loop that reads so many, where reading has come to the one after i
+-- the same of a loop that reads this many, where reading has come to the one after i
 pub times_refused : {A : Type 0} (e : ReadModelError) (step : A → TextState → Result (A × TextState) InstanceError) (count i : ℕ) (first made : A) (start s : TextState)
     → times step (count - i) made s ≡ times step count first start → i < count → Fails e (step made s) → Fails e (times step count first start)
 times_refused e step count i first made start s so_far below fails = times_fails e step count i made s (times step count first start) below fails so_far

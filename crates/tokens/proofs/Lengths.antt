@@ -9,7 +9,7 @@ pub number_short : (k : ℕ) (z : ℤ) → 0 < k → nat_abs z < 10 ^ k → nat_
 number_short k (pos n) some few fits = omega (arith, length-decimal-le k n some few fits)
 number_short k (negsuc n) some few fits = omega (arith, length-decimal-le k (suc n) some few fits)
 
--- parts of at most so many bytes each, where a fact of those that are left tells it of the first
+-- parts of at most this many bytes each, where a fact of those that are left tells it of the first
 pub parts_short : {X : Type 0} (print : X → List ℕ) (most : ℕ) (P : List X → Type 0)
     → ((x : X) (xs : List X) → P (x ∷ xs) → (length (print x) ≤ most) × P xs) → (xs : List X) → P xs → length (flat_map print xs) ≤ most * length xs
 parts_short print most P each [] held = omega arith

@@ -68,10 +68,10 @@ prefix_to_blank (w ∷ ws) b more solid blank =
     let rest = prefix_to_blank ws b more parts.1 blank in
     grind (arith, nat_tests)
 
--- the next token, and what stands behind it
-record IsWordNext (word behind : List ℕ) (s : TextState) : Type 0 where
+-- the next token, and what stands after it
+record IsWordNext (word following : List ℕ) (s : TextState) : Type 0 where
   token_is : token s ≡ word
-  rest_is : (after_token s).rest ≡ behind
+  rest_is : (after_token s).rest ≡ following
   comment_is : (after_token s).comment ≡ s.comment
 
 next_is : (w : ℕ) (ws : List ℕ) (b : ℕ) (more : List ℕ) (s : TextState) → list_all is_solid (w ∷ ws) ≡ true → opens_comment s.comment w ≡ false → is_blank b ≡ true → IsBefore ((w ∷ ws) ++ b ∷ more) s → IsWordNext (w ∷ ws) (b ∷ more) s
@@ -90,9 +90,9 @@ next_is w ws b more s solid plain blank before =
 pub before_start : (comment : Comment) (bytes : List ℕ) → IsBefore bytes (text_start comment bytes)
 before_start comment bytes = record { blanks = []; are_blank = refl; rest_is = refl }
 
--- behind one blank
-pub before_behind : (b : ℕ) (bytes : List ℕ) (s : TextState) → is_blank b ≡ true → s.rest ≡ b ∷ bytes → IsBefore bytes s
-before_behind b bytes s blank e = record { blanks = b ∷ []; are_blank = rw blank refl; rest_is = e }
+-- after one blank
+pub before_after : (b : ℕ) (bytes : List ℕ) (s : TextState) → is_blank b ≡ true → s.rest ≡ b ∷ bytes → IsBefore bytes s
+before_after b bytes s blank e = record { blanks = b ∷ []; are_blank = rw blank refl; rest_is = e }
 
 in_range : (least z greatest : ℤ) → least ≤ℤ z → z ≤ℤ greatest → (int_le least z && int_le z greatest) ≡ true
 in_range least z greatest low high = search (rules, tests)
@@ -136,7 +136,7 @@ pub reads_natural : (n least greatest b : ℕ) (more : List ℕ) (s : TextState)
 reads_natural n least greatest b more s low high fits blank before =
     reads_number (pos n) (pos least) (pos greatest) b more s (omega arith) (omega (arith, ints)) (omega (arith, ints)) blank before
 
--- a printed number that lies ahead is read, and so is the blank behind it
+-- a printed number that lies ahead is read, and so is the blank after it
 pub record PassesNumber (z : ℤ) (least greatest : ℤ) (more : List ℕ) (s : TextState) : Type 0 where
   pub value : number_at least greatest s ≡ Ok z
   pub before : IsBefore more (after_token s)
@@ -147,7 +147,7 @@ pub passes_number : (z least greatest : ℤ) (b : ℕ) (more : List ℕ) (s : Te
     → IsBefore (decimal_of z ++ b ∷ more) s → PassesNumber z least greatest more s
 passes_number z least greatest b more s fits low high blank before =
     let read = reads_number z least greatest b more s fits low high blank before in
-    record { value = read.value; before = before_behind b more (after_token s) blank read.rest_is; comment_is = read.comment_is }
+    record { value = read.value; before = before_after b more (after_token s) blank read.rest_is; comment_is = read.comment_is }
 
 pub passes_natural : (n least greatest b : ℕ) (more : List ℕ) (s : TextState)
     → least ≤ n → n ≤ greatest → greatest < 2 ^ 64 → is_blank b ≡ true
@@ -155,7 +155,7 @@ pub passes_natural : (n least greatest b : ℕ) (more : List ℕ) (s : TextState
 passes_natural n least greatest b more s low high fits blank before =
     passes_number (pos n) (pos least) (pos greatest) b more s (omega arith) (omega (arith, ints)) (omega (arith, ints)) blank before
 
--- no token is left behind the last blanks
+-- no token is left after the last blanks
 pub no_token_before : (s : TextState) → IsBefore [] s → token s ≡ []
 unfolding token
 no_token_before s before = rw (at_nothing s before).rest_is refl

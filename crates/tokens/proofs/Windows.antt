@@ -4,35 +4,35 @@ use Rattle.std.specs.Prelude.{Some, option_map, ℤ, pos, int_le, ◌&&◌, Ok}
 use Rattle.std.proofs.lemmas.List.{length-drop, length-take-le, take_all}
 use Rattle.std.specs.Char.{is_ascii_digit}
 use Rattle.tokens.specs.Text.{Place, is_solid, value_after, number_in, in_bounds, signed_of}
-use Rattle.tokens.specs.Scanned.{first_token, behind_token, head_digits, behind_digits}
+use Rattle.tokens.specs.Scanned.{first_token, following_token, head_digits, after_digits}
 use Rattle.tokens.proofs.Digits.{digit_range}
-use Rattle.tokens.proofs.Scanning.{digits_first, no_digits, token_first, blank_first, digits_long, digits_natural, behind_alone, plain_number}
+use Rattle.tokens.proofs.Scanning.{digits_first, no_digits, token_first, blank_first, digits_long, digits_natural, after_alone, plain_number}
 
--- where the digits end before a blank in the first n bytes, they are those of all bytes, and no token begins behind them
+-- where the digits end before a blank in the first n bytes, they are those of all bytes, and no token begins after them
 abbrev Same : ℕ → List ℕ → Type 0
-Same n xs = (head_digits (take n xs) ≡ head_digits xs) × (length (first_token (behind_digits xs)) ≡ 0)
+Same n xs = (head_digits (take n xs) ≡ head_digits xs) × (length (first_token (after_digits xs)) ≡ 0)
 
 ends_by : (b : Bool) (x : ℕ) (n : ℕ) (xs : List ℕ) → is_solid x ≡ b → length (first_token (x ∷ take n xs)) ≡ 0 → length (first_token (x ∷ xs)) ≡ 0
 ends_by true x n xs h ends = let long = ap length (token_first x (take n xs) h) in absurd (omega arith)
 ends_by false x n xs h ends = rw (blank_first x xs h) refl
 
-same_by : (b : Bool) (x n : ℕ) (xs : List ℕ) → is_ascii_digit x ≡ b → (0 < length (behind_digits (take n xs)) → length (first_token (behind_digits (take n xs))) ≡ 0 → Same n xs)
-    → 0 < length (behind_digits (x ∷ take n xs)) → length (first_token (behind_digits (x ∷ take n xs))) ≡ 0 → Same (suc n) (x ∷ xs)
+same_by : (b : Bool) (x n : ℕ) (xs : List ℕ) → is_ascii_digit x ≡ b → (0 < length (after_digits (take n xs)) → length (first_token (after_digits (take n xs))) ≡ 0 → Same n xs)
+    → 0 < length (after_digits (x ∷ take n xs)) → length (first_token (after_digits (x ∷ take n xs))) ≡ 0 → Same (suc n) (x ∷ xs)
 same_by true x n xs digit more some ends =
     let near = digits_first x (take n xs) digit in
     let far = digits_first x xs digit in
-    let near_same : behind_digits (x ∷ take n xs) ≡ behind_digits (take n xs) = rw near refl in
-    let far_same : behind_digits (x ∷ xs) ≡ behind_digits xs = rw far refl in
+    let near_same : after_digits (x ∷ take n xs) ≡ after_digits (take n xs) = rw near refl in
+    let far_same : after_digits (x ∷ xs) ≡ after_digits xs = rw far refl in
     let rest = more (subst (λ l. 0 < length l) near_same some) (subst (λ l. length (first_token l) ≡ 0) near_same ends) in
     (near ∙ ap (λ l. x ∷ l) rest.0 ∙ sym far, subst (λ l. length (first_token l) ≡ 0) (sym far_same) rest.1)
 same_by false x n xs other more some ends =
     let near = no_digits x (take n xs) other in
     let far = no_digits x xs other in
-    let near_same : behind_digits (x ∷ take n xs) ≡ x ∷ take n xs = rw near refl in
-    let far_same : behind_digits (x ∷ xs) ≡ x ∷ xs = rw far refl in
+    let near_same : after_digits (x ∷ take n xs) ≡ x ∷ take n xs = rw near refl in
+    let far_same : after_digits (x ∷ xs) ≡ x ∷ xs = rw far refl in
     (near ∙ sym far, subst (λ l. length (first_token l) ≡ 0) (sym far_same) (ends_by (is_solid x) x n xs refl (subst (λ l. length (first_token l) ≡ 0) near_same ends)))
 
-same : (n : ℕ) (xs : List ℕ) → 0 < length (behind_digits (take n xs)) → length (first_token (behind_digits (take n xs))) ≡ 0 → Same n xs
+same : (n : ℕ) (xs : List ℕ) → 0 < length (after_digits (take n xs)) → length (first_token (after_digits (take n xs))) ≡ 0 → Same n xs
 same zero xs some ends = absurd (omega arith)
 same (suc n) [] some ends = absurd (omega arith)
 same (suc n) (x ∷ xs) some ends = same_by (is_ascii_digit x) x n xs refl (same n xs) some ends
@@ -45,7 +45,7 @@ first_digit (x ∷ xs) some = first_by (is_ascii_digit x) x xs refl some where
   first_by false x xs h some = let none = ap length (no_digits x xs h) in absurd (omega arith)
 
 -- the number that they write is that of the first token of all bytes
-pub window_number : (least greatest : ℤ) (place : Place) (n : ℕ) (xs : List ℕ) → 0 < length (behind_digits (take n xs)) → length (first_token (behind_digits (take n xs))) ≡ 0 → 0 < length (head_digits (take n xs))
+pub window_number : (least greatest : ℤ) (place : Place) (n : ℕ) (xs : List ℕ) → 0 < length (after_digits (take n xs)) → length (first_token (after_digits (take n xs))) ≡ 0 → 0 < length (head_digits (take n xs))
     → number_in least greatest place (first_token xs) ≡ in_bounds least greatest place (Some (pos (value_after 0 (head_digits (take n xs)))))
 window_number least greatest place n xs some ends more =
     let both = same n xs some ends in
@@ -56,20 +56,20 @@ window_number least greatest place n xs some ends more =
     let number = plain_number least greatest place xs (omega arith) (λ e. omega (arith, e)) (grind arith) (omega arith) in
     number ∙ ap (λ o. in_bounds least greatest place (option_map (signed_of false) o)) (natural ∙ ap (λ l. Some (value_after 0 l)) (sym both.0))
 
--- and what stands behind them is what stands behind the token
-pub window_behind : (n : ℕ) (xs behind : List ℕ) → n ≤ length xs → behind ≡ behind_digits (take n xs) → 0 < length behind → length (first_token behind) ≡ 0
-    → take (length xs - (n - length behind)) (drop (n - length behind) xs) ≡ behind_token xs
-window_behind n xs behind fit is some ends =
+-- and what stands after them is what stands after the token
+pub window_after : (n : ℕ) (xs following : List ℕ) → n ≤ length xs → following ≡ after_digits (take n xs) → 0 < length following → length (first_token following) ≡ 0
+    → take (length xs - (n - length following)) (drop (n - length following) xs) ≡ following_token xs
+window_after n xs following fit is some ends =
     let both = same n xs (subst (λ l. 0 < length l) is some) (subst (λ l. length (first_token l) ≡ 0) is ends) in
     let long = digits_long (take n xs) in
     let short : length (take n xs) ≡ n = length-take-le n xs fit in
-    let count : n - length behind ≡ length (head_digits xs) = (let e = ap length both.0 in let b = ap length is in omega arith) in
-    let left = length-drop (n - length behind) xs in
-    take_all (length xs - (n - length behind)) (drop (n - length behind) xs) (omega arith) ∙ (ap (λ k. drop k xs) count ∙ behind_alone xs both.1)
+    let count : n - length following ≡ length (head_digits xs) = (let e = ap length both.0 in let b = ap length is in omega arith) in
+    let left = length-drop (n - length following) xs in
+    take_all (length xs - (n - length following)) (drop (n - length following) xs) (omega arith) ∙ (ap (λ k. drop k xs) count ∙ after_alone xs both.1)
 
-pub window_value : (least greatest number : ℤ) (place : Place) (n size : ℕ) (xs behind : List ℕ) → n ≤ length xs → size ≡ min (value_after 0 (head_digits (take n xs))) (2 ^ 64 - 1) → behind ≡ behind_digits (take n xs)
-    → 0 < length behind → length (first_token behind) ≡ 0 → n - length behind ≢ 0 → number ≡ pos size → size < 2 ^ 63 → (int_le least number && int_le number greatest) ≡ true → number_in least greatest place (first_token xs) ≡ Ok number
-window_value least greatest number place n size xs behind fit size_is is some ends digits number_is small tests =
+pub window_value : (least greatest number : ℤ) (place : Place) (n size : ℕ) (xs following : List ℕ) → n ≤ length xs → size ≡ min (value_after 0 (head_digits (take n xs))) (2 ^ 64 - 1) → following ≡ after_digits (take n xs)
+    → 0 < length following → length (first_token following) ≡ 0 → n - length following ≢ 0 → number ≡ pos size → size < 2 ^ 63 → (int_le least number && int_le number greatest) ≡ true → number_in least greatest place (first_token xs) ≡ Ok number
+window_value least greatest number place n size xs following fit size_is is some ends digits number_is small tests =
     let long = digits_long (take n xs) in
     let short : length (take n xs) ≡ n = length-take-le n xs fit in
     let b = ap length is in
@@ -79,4 +79,4 @@ window_value least greatest number place n size xs behind fit size_is is some en
     ∙ ap (λ z. in_bounds least greatest place (Some z)) (ap pos value ∙ sym number_is) in
     read ∙ rw tests refl
 
-pub ruleset window_steps = (window_value, window_behind)
+pub ruleset window_steps = (window_value, window_after)

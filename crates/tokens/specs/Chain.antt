@@ -1,4 +1,4 @@
--- Chains of readings: a token or a part, and what is read behind it. Each grammar has errors of its own, and says which one the fault of a token is.
+-- Chains of readings: a token or a part, and what is read after it. Each grammar has errors of its own, and says which one the fault of a token is.
 use Rattle.std.specs.Prelude.{ℕ, zero, suc, List, ℤ, Bool, false, cond, Result, Ok, Err}
 use Rattle.tokens.specs.Text.{TextState, TextError, number_at, word_at, finish_at, after_token}
 
@@ -7,11 +7,11 @@ abbrev pub read_then : {A B E : Type 0} → (TextError → E) → Result A TextE
 read_then fault (Ok x) more = more x
 read_then fault (Err e) more = Err (fault e)
 
--- a number from least to greatest, and what is read behind it
+-- a number from least to greatest, and what is read after it
 abbrev pub number_then : {B E : Type 0} → (TextError → E) → ℤ → ℤ → TextState → (ℤ → TextState → Result B E) → Result B E
 number_then fault least greatest s more = read_then fault (number_at least greatest s) (λ z. more z (after_token s))
 
--- a word, and what is read behind it
+-- a word, and what is read after it
 abbrev pub word_then : {B E : Type 0} → (TextError → E) → TextState → (List ℕ → TextState → Result B E) → Result B E
 word_then fault s more = read_then fault (word_at s) (λ w. more w (after_token s))
 
@@ -19,17 +19,17 @@ word_then fault s more = read_then fault (word_at s) (λ w. more w (after_token 
 abbrev pub end_then : {B E : Type 0} → (TextError → E) → TextState → Result B E → Result B E
 end_then fault s outcome = read_then fault (finish_at s) (λ _. outcome)
 
--- a part of the text, with where reading stands behind it, and what is read behind it
+-- a part of the text, with where reading stands after it, and what is read after it
 abbrev pub part_then : {A B E : Type 0} → Result (A × TextState) E → (A → TextState → Result B E) → Result B E
 part_then (Ok (x, s)) more = more x s
 part_then (Err e) more = Err e
 
--- a part that is passed over, and what is read behind it
+-- a part that is passed over, and what is read after it
 abbrev pub passed_then : {B E : Type 0} → Result TextState E → (TextState → Result B E) → Result B E
 passed_then (Ok s) more = more s
 passed_then (Err e) more = Err e
 
--- parts up to where they end, at most so many, each read with what was made of those before it
+-- parts up to where they end, at most this many, each read with what was made of those before it
 unfoldable pub until : {A E : Type 0} → (TextState → Bool) → (A → TextState → Result (A × TextState) E) → ℕ → A → TextState → Result (A × TextState) E
 until ends step zero made s = Ok (made, s)
 until ends step (suc n) made s = cond (ends s) (Ok (made, s)) (part_then (step made s) (λ more t. until ends step n more t))
@@ -38,6 +38,6 @@ until ends step (suc n) made s = cond (ends s) (Ok (made, s)) (part_then (step m
 abbrev pub never : TextState → Bool
 never s = false
 
--- a part that stands so many times, each read with what was made of those before it
+-- a part that stands this many times, each read with what was made of those before it
 unfoldable pub times : {A E : Type 0} → (A → TextState → Result (A × TextState) E) → ℕ → A → TextState → Result (A × TextState) E
 times step n made s = until never step n made s

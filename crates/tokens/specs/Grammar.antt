@@ -22,11 +22,11 @@ of_text (NotAscii p) = record { fault = faults.NotAscii; place = p }
 abbrev pub read_then : {A B : Type 0} → Result A TextError → (A → Result B InstanceError) → Result B InstanceError
 read_then read more = chain.read_then of_text read more
 
--- a number from least to greatest, and what is read behind it
+-- a number from least to greatest, and what is read after it
 abbrev pub number_then : {B : Type 0} → ℤ → ℤ → TextState → (ℤ → TextState → Result B InstanceError) → Result B InstanceError
 number_then least greatest s more = chain.number_then of_text least greatest s more
 
--- a word, and what is read behind it
+-- a word, and what is read after it
 abbrev pub word_then : {B : Type 0} → TextState → (List ℕ → TextState → Result B InstanceError) → Result B InstanceError
 word_then s more = chain.word_then of_text s more
 

@@ -9,21 +9,21 @@ pub record IsBefore (bytes : List ℕ) (s : TextState) : Type 0 where
   pub are_blank : list_all is_blank blanks ≡ true
   pub rest_is : s.rest ≡ blanks ++ bytes
 
--- a printed number is read, and reading stands right behind it
-pub record ReadsNumber (z : ℤ) (least greatest : ℤ) (behind : List ℕ) (s : TextState) : Type 0 where
+-- a printed number is read, and reading stands right after it
+pub record ReadsNumber (z : ℤ) (least greatest : ℤ) (following : List ℕ) (s : TextState) : Type 0 where
   pub value : number_at least greatest s ≡ Ok z
-  pub rest_is : (after_token s).rest ≡ behind
+  pub rest_is : (after_token s).rest ≡ following
   pub comment_is : (after_token s).comment ≡ s.comment
 
--- a printed word is read, and reading stands right behind it
-pub record ReadsWord (word : List ℕ) (behind : List ℕ) (s : TextState) : Type 0 where
+-- a printed word is read, and reading stands right after it
+pub record ReadsWord (word : List ℕ) (following : List ℕ) (s : TextState) : Type 0 where
   pub value : word_at s ≡ Ok word
-  pub rest_is : (after_token s).rest ≡ behind
+  pub rest_is : (after_token s).rest ≡ following
   pub comment_is : (after_token s).comment ≡ s.comment
 
--- a printed part is read, and reading stands before what was printed behind it
+-- a printed part is read, and reading stands before what was printed after it
 pub record ReadsPart {A E : Type 0} (part : A → TextState → Result (A × TextState) E) (made next : A) (tail : List ℕ) (s : TextState) : Type 0 where
-  pub behind : TextState
-  pub read : part made s ≡ Ok (next, behind)
-  pub before : IsBefore tail behind
-  pub comment_is : behind.comment ≡ s.comment
+  pub following : TextState
+  pub read : part made s ≡ Ok (next, following)
+  pub before : IsBefore tail following
+  pub comment_is : following.comment ≡ s.comment

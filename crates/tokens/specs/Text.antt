@@ -38,7 +38,7 @@ opens_comment Never b = false
 opens_comment Hash b = b == 35
 opens_comment LetterC b = b == 99
 
--- the place behind a byte: LF ends a line, and each other byte takes a column
+-- the place after a byte: LF ends a line, and each other byte takes a column
 abbrev pub place_after : ℕ → Place → Place
 place_after b p = if b == 10 then record { line = p.line + 1; column = 1 } else record { line = p.line; column = p.column + 1 }
 
@@ -46,7 +46,7 @@ place_after b p = if b == 10 then record { line = p.line + 1; column = 1 } else 
 abbrev pub is_passed : Comment → Bool → Bool → ℕ → Bool
 is_passed comment inside fresh b = inside || is_blank b || (fresh && opens_comment comment b)
 
--- whether a comment goes on behind a byte that was passed over
+-- whether a comment goes on after a byte that was passed over
 abbrev pub is_inside_after : Bool → ℕ → Bool
 is_inside_after inside b = (inside || is_solid b) && not (b == 10)
 
@@ -67,11 +67,11 @@ at_token s = skip s.comment false s.fresh s.place s.rest
 unfoldable pub token : TextState → List ℕ
 token s = take_while is_solid (at_token s).rest
 
--- behind so many bytes of the line
+-- after this many bytes of the line
 abbrev pub past : ℕ → TextState → TextState
 past n s = record { rest = drop n s.rest; place = record { line = s.place.line; column = s.place.column + n }; fresh = false; comment = s.comment }
 
--- right behind the next token
+-- right after the next token
 unfoldable pub after_token : TextState → TextState
 after_token s = past (length (token s)) (at_token s)
 
@@ -92,7 +92,7 @@ is_blank_line (b ∷ bs) = b == 10 || (is_blank b && is_blank_line bs)
 unfoldable pub ends_line : TextState → Bool
 ends_line s = is_blank_line s.rest
 
--- the number that digits write behind those of n
+-- the number that digits write after those of n
 abbrev pub value_after : ℕ → List ℕ → ℕ
 value_after n [] = n
 value_after n (d ∷ ds) = value_after (10 * n + (d - 48)) ds
@@ -102,7 +102,7 @@ abbrev pub natural_of : List ℕ → Option ℕ
 natural_of [] = None
 natural_of (d ∷ ds) = if all_ascii_digits (d ∷ ds) then Some (value_after 0 (d ∷ ds)) else None
 
--- the number of a size, behind a minus or not
+-- the number of a size, after a minus or not
 abbrev pub signed_of : Bool → ℕ → ℤ
 signed_of true n = neg_ℤ (pos n)
 signed_of false n = pos n

@@ -13,7 +13,7 @@ pub enum InstanceFault {
     OutOfRange,
     /// The text ends too early.
     EndOfText,
-    /// A token is left behind the instance.
+    /// A token is left after the instance.
     Trailing,
     /// A token's first byte is not ASCII.
     NotAscii,

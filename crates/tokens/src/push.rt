@@ -12,7 +12,7 @@ pub fn push_text(out: &mut Vec<u8>, text: &str) -> Result<(), AllocError>
     out.extend_from_slice(text.as_bytes())
 }
 
-/// Appends the number in decimal, with no leading zeros, behind a minus where it is negative. Where
+/// Appends the number in decimal, with no leading zeros, after a minus where it is negative. Where
 /// memory runs out, nothing is appended.
 pub fn push_number(out: &mut Vec<u8>, value: i64) -> Result<(), AllocError>
     ensures items { out.new.items ≡ (if is_ok result then out.old.items ++ decimal_of value else out.old.items) }

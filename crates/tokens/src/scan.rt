@@ -4,7 +4,7 @@ ghost use Rattle.std.specs.Result.{result_map_both};
 ghost use Rattle.std.specs.List.{prefix_len};
 ghost use Rattle.std.specs.Int.{w64};
 ghost use Rattle.tokens.specs.Text.{Comment, Place, is_blank, is_solid, opens_comment, is_passed, is_inside_after, place_after, skip, IsCountable, natural_of, value_after, signed_of, in_bounds, number_in, is_blank_line};
-ghost use Rattle.tokens.specs.Scanned.{first_token, behind_token, head_digits, behind_digits};
+ghost use Rattle.tokens.specs.Scanned.{first_token, following_token, head_digits, after_digits};
 
 use crate::comment::Comment;
 use crate::place::Place;
@@ -13,7 +13,7 @@ use crate::text_error::TextError;
 /// A number below this has room for a further digit.
 const SURELY_SHORT: u64 = 1 << 59;
 
-/// In so many bytes a number of few digits ends. A loop over so few is written out, and its numbers are surely short.
+/// In this many bytes a number of few digits ends. A loop over so few is written out, and its numbers are surely short.
 const WINDOW: usize = 12;
 
 /// Where a token begins, or the end of the text. It has no padding, which would be copied for each token.
@@ -56,7 +56,7 @@ fn stays_inside(inside: bool, b: u8) -> bool
 }
 
 #[inline]
-fn place_behind(b: u8, place: Place) -> Place
+fn place_following(b: u8, place: Place) -> Place
     requires line { place.line < 2 ^ 32 - 1 }
     requires column { place.column < 2 ^ 32 - 1 }
     ensures { result ≡ place_after b place }
@@ -89,7 +89,7 @@ pub(crate) fn skip_blanks<'a>(from: Place, bytes: &'a [u8]) -> Spot<'a>
         if !is_blank_byte(b) {
             break;
         }
-        place = place_behind(b, place);
+        place = place_following(b, place);
         rest = after;
     }
     Spot { rest, place }
@@ -115,7 +115,7 @@ fn skip_to_token<'a>(comment: Comment, from_fresh: bool, from: Spot<'a>) -> Spot
         }
         inside = stays_inside(inside, b);
         fresh = fresh || b == b'\n';
-        place = place_behind(b, place);
+        place = place_following(b, place);
         rest = after;
     }
     Spot { rest, place }
@@ -146,9 +146,9 @@ fn is_above_blanks(b: u8) -> bool
     b > b' '
 }
 
-/// The token behind a single blank that ends a token; `None` where anything else stands here, or a token of control bytes.
+/// The token after a single blank that ends a token; `None` where anything else stands here, or a token of control bytes.
 #[inline]
-pub(crate) fn behind_one_blank<'a>(
+pub(crate) fn after_one_blank<'a>(
     comment: Comment,
     from: Place,
     bytes: &'a [u8],
@@ -212,18 +212,18 @@ fn begin_apart(bytes: &[u8], word: &[u8]) -> bool
     }
 }
 
-/// The number behind one more digit, or 2^64 - 1 where it is greater, for numbers of any size.
+/// The number after one more digit, or 2^64 - 1 where it is greater, for numbers of any size.
 #[cold]
 #[inline(never)]
-fn saturated_behind(total: u64, digit: u64) -> u64
+fn saturated_after(total: u64, digit: u64) -> u64
     ensures { result ≡ min (10 * total + digit) (2 ^ 64 - 1) }
 {
     total.saturating_mul(10).saturating_add(digit)
 }
 
-/// The number behind one more digit, or 2^64 - 1 where it is greater.
+/// The number after one more digit, or 2^64 - 1 where it is greater.
 #[inline]
-fn capped_behind(total: u64, digit: u8) -> u64
+fn capped_after(total: u64, digit: u8) -> u64
     requires least { 48 ≤ digit }
     requires greatest { digit ≤ 57 }
     ensures { result ≡ min (10 * total + (digit - 48)) (2 ^ 64 - 1) }
@@ -232,16 +232,16 @@ fn capped_behind(total: u64, digit: u8) -> u64
     if total < SURELY_SHORT {
         total * 10 + digit
     } else {
-        saturated_behind(total, digit)
+        saturated_after(total, digit)
     }
 }
 
-/// What digits write, and what stands behind them.
+/// What digits write, and what stands after them.
 #[derive(Clone, Copy)]
 struct Digits<'a> {
     /// The number, or 2^64 - 1 where it is greater.
     size: u64,
-    behind: &'a [u8],
+    following: &'a [u8],
 }
 
 /// The digits at the head of the bytes, of which there may be none.
@@ -249,7 +249,7 @@ struct Digits<'a> {
 #[tactic(auto, using(crate::proofs::Scanning::digit_steps))]
 fn leading_digits(bytes: &[u8]) -> Digits<'_>
     ensures size { result.size ≡ min (value_after 0 (head_digits bytes.now)) (2 ^ 64 - 1) }
-    ensures behind { result.behind.now ≡ behind_digits bytes.now }
+    ensures following { result.following.now ≡ after_digits bytes.now }
 {
     let mut size = 0u64;
     let mut rest = bytes;
@@ -258,10 +258,13 @@ fn leading_digits(bytes: &[u8]) -> Digits<'_>
         if !b.is_ascii_digit() {
             break;
         }
-        size = capped_behind(size, b);
+        size = capped_after(size, b);
         rest = after;
     }
-    Digits { size, behind: rest }
+    Digits {
+        size,
+        following: rest,
+    }
 }
 
 /// Whether no token begins with the first byte.
@@ -275,30 +278,30 @@ fn begins_no_token(bytes: &[u8]) -> bool
     }
 }
 
-/// What stands behind the first token, where it is this byte alone.
+/// What stands after the first token, where it is this byte alone.
 #[inline]
 #[tactic(auto, using(crate::proofs::Scanning::byte_steps))]
-fn behind_byte(bytes: &[u8], wanted: u8) -> Option<&[u8]>
+fn after_byte(bytes: &[u8], wanted: u8) -> Option<&[u8]>
     ensures found { is_some result ≡ pointwise nat_eq (first_token bytes.now) (wanted ∷ []) }
-    ensures behind { IfSome result (λ b. b.now ≡ behind_token bytes.now) }
+    ensures following { IfSome result (λ b. b.now ≡ following_token bytes.now) }
 {
     match bytes {
-        [first, behind @ ..]
-            if *first == wanted && !is_blank_byte(wanted) && begins_no_token(behind) => {
-            Some(behind)
+        [first, following @ ..]
+            if *first == wanted && !is_blank_byte(wanted) && begins_no_token(following) => {
+            Some(following)
         }
         _ => None,
     }
 }
 
-/// What stands behind the first token, where it is this word.
+/// What stands after the first token, where it is this word.
 #[inline]
-pub(crate) fn behind_word<'a>(bytes: &'a [u8], word: &[u8]) -> Option<&'a [u8]>
+pub(crate) fn following_word<'a>(bytes: &'a [u8], word: &[u8]) -> Option<&'a [u8]>
     ensures found { is_some result ≡ pointwise nat_eq (first_token bytes.now) word.now }
-    ensures behind { IfSome result (λ b. b.now ≡ behind_token bytes.now) }
+    ensures following { IfSome result (λ b. b.now ≡ following_token bytes.now) }
 {
     if let [only] = word {
-        return behind_byte(bytes, *only);
+        return after_byte(bytes, *only);
     }
     if begin_apart(bytes, word) {
         return None;
@@ -316,13 +319,13 @@ pub(crate) fn behind_word<'a>(bytes: &'a [u8], word: &[u8]) -> Option<&'a [u8]>
 #[tactic(auto, using(crate::proofs::Scanning::natural_steps))]
 fn leading_natural(bytes: &[u8]) -> Option<Digits<'_>>
     ensures size { option_map (λ d. d.size) result ≡ option_map (λ n. min n (2 ^ 64 - 1)) (natural_of (first_token bytes.now)) }
-    ensures behind { IfSome result (λ d. d.behind.now ≡ behind_token bytes.now) }
+    ensures following { IfSome result (λ d. d.following.now ≡ following_token bytes.now) }
 {
     let digits = leading_digits(bytes);
-    if digits.behind.len() == bytes.len() {
+    if digits.following.len() == bytes.len() {
         return None;
     }
-    if !begins_no_token(digits.behind) {
+    if !begins_no_token(digits.following) {
         return None;
     }
     Some(digits)
@@ -340,11 +343,11 @@ fn signed(is_negative: bool, size: u64) -> Option<i64>
     }
 }
 
-/// A number, and what stands behind it.
+/// A number, and what stands after it.
 #[derive(Clone, Copy)]
 pub(crate) struct Number<'a> {
     pub(crate) value: i64,
-    pub(crate) behind: &'a [u8],
+    pub(crate) following: &'a [u8],
 }
 
 /// Whether the bytes begin with a blank that most often ends a token.
@@ -366,26 +369,26 @@ fn begin_with_a_blank(bytes: &[u8]) -> bool
 pub(crate) fn short_number(bytes: &[u8], least: i64, greatest: i64) -> Option<Number<'_>>
     ensures value { IfSome result (λ n. (place : Place) → number_in least greatest place (first_token bytes.now) ≡ Ok n.value) }
     ensures range { IfSome result (λ n. (least ≤ℤ n.value) × (n.value ≤ℤ greatest)) }
-    ensures behind { IfSome result (λ n. n.behind.now ≡ behind_token bytes.now) }
+    ensures following { IfSome result (λ n. n.following.now ≡ following_token bytes.now) }
 {
     if bytes.len() < WINDOW {
         return None;
     }
     let digits = leading_digits(&bytes[..WINDOW]);
-    let len = WINDOW - digits.behind.len();
-    if len == 0 || !begin_with_a_blank(digits.behind) {
+    let len = WINDOW - digits.following.len();
+    if len == 0 || !begin_with_a_blank(digits.following) {
         return None;
     }
     match signed(false, digits.size) {
         Some(number) if least <= number && number <= greatest => Some(Number {
             value: number,
-            behind: &bytes[len..],
+            following: &bytes[len..],
         }),
         _ => None,
     }
 }
 
-/// Reads the first token as digits, behind a minus or not, of a number from `least` to `greatest`.
+/// Reads the first token as digits, after a minus or not, of a number from `least` to `greatest`.
 #[inline]
 fn number_within<'a>(
     is_negative: bool,
@@ -395,7 +398,7 @@ fn number_within<'a>(
     greatest: i64,
 ) -> Result<Number<'a>, TextError>
     ensures value { result_map_both (λ n. n.value) (λ e. e) result ≡ in_bounds least greatest place.now (option_map (signed_of is_negative) (natural_of (first_token digits.now))) }
-    ensures behind { IfOk result (λ n. n.behind.now ≡ behind_token digits.now) }
+    ensures following { IfOk result (λ n. n.following.now ≡ following_token digits.now) }
 {
     let Some(read) = leading_natural(digits) else {
         return Err(TextError::NotNumber(*place));
@@ -403,13 +406,13 @@ fn number_within<'a>(
     match signed(is_negative, read.size) {
         Some(number) if least <= number && number <= greatest => Ok(Number {
             value: number,
-            behind: read.behind,
+            following: read.following,
         }),
         _ => Err(TextError::OutOfRange(*place)),
     }
 }
 
-/// Reads the first token as digits behind a minus, of a number from `least` to `greatest`.
+/// Reads the first token as digits after a minus, of a number from `least` to `greatest`.
 #[cold]
 #[inline(never)]
 fn negative_within<'a>(
@@ -419,7 +422,7 @@ fn negative_within<'a>(
     greatest: i64,
 ) -> Result<Number<'a>, TextError>
     ensures value { result_map_both (λ n. n.value) (λ e. e) result ≡ in_bounds least greatest place.now (option_map (signed_of true) (natural_of (first_token digits.now))) }
-    ensures behind { IfOk result (λ n. n.behind.now ≡ behind_token digits.now) }
+    ensures following { IfOk result (λ n. n.following.now ≡ following_token digits.now) }
 {
     number_within(true, digits, place, least, greatest)
 }
@@ -434,7 +437,7 @@ pub(crate) fn leading_number<'a>(
     greatest: i64,
 ) -> Result<Number<'a>, TextError>
     ensures value { result_map_both (λ n. n.value) (λ e. e) result ≡ number_in least greatest place.now (first_token bytes.now) }
-    ensures behind { IfOk result (λ n. n.behind.now ≡ behind_token bytes.now) }
+    ensures following { IfOk result (λ n. n.following.now ≡ following_token bytes.now) }
 {
     match bytes {
         [b'-', digits @ ..] => negative_within(digits, place, least, greatest),

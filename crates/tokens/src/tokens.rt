@@ -1,19 +1,19 @@
 ghost use Rattle.std.specs.Prelude.{◌≡◌, ◌+◌, ◌-◌, ◌^◌, ◌<◌, ◌≤◌, length, ◌≤ℤ◌, pos, OnOk, OnErr, IfOk, MatchResult, false, true, Ok, Err, nat_eq};
 ghost use Rattle.std.specs.Cmp.Lexicographic.{pointwise};
-ghost use Rattle.tokens.specs.Scanned.{behind_token, IsNextToken};
+ghost use Rattle.tokens.specs.Scanned.{following_token, IsNextToken};
 ghost use Rattle.tokens.specs.Text.{text_start, at_token, IsCountable, token, place_of, ends_line, is_at_end, number_at, word_at, after_token, finish_at};
 
 use crate::comment::Comment;
 use crate::place::Place;
 use crate::scan::{
-    Spot, behind_one_blank, behind_word, leading_number, short_number, skip_blanks, skip_comments,
-    token_len,
+    Spot, after_one_blank, following_word, leading_number, short_number, skip_blanks,
+    skip_comments, token_len,
 };
 use crate::text_error::TextError;
 use std::marker::Model;
 use std::snapshot::Snapshot;
 
-/// Where reading stands, right behind the last token.
+/// Where reading stands, right after the last token.
 #[derive(Clone, Copy)]
 struct Here<'a> {
     rest: &'a [u8],
@@ -126,22 +126,22 @@ impl<'a> Tokens<'a> {
     pub fn next_is(&self, word: &[u8]) -> bool
         ensures { result ≡ pointwise nat_eq (token self.now) word.now }
     {
-        behind_word(self.spot().rest, word).is_some()
+        following_word(self.spot().rest, word).is_some()
     }
 
-    /// Right behind the next token.
+    /// Right after the next token.
     #[inline]
     #[tactic(auto, unfolding(crate::specs::Text::token, crate::specs::Text::after_token), using(crate::proofs::Scanning::token_length))]
-    fn behind_next(&self, behind: &'a [u8]) -> Here<'a>
-        requires { behind.now ≡ behind_token (at_token self.now).rest }
+    fn after_next(&self, following: &'a [u8]) -> Here<'a>
+        requires { following.now ≡ following_token (at_token self.now).rest }
         ensures stands { record { rest = result.rest.now; place = result.place; fresh = result.fresh; comment = self.now.comment } ≡ after_token self.now }
         ensures countable { IsCountable result.place result.rest.now }
         ensures on_line { result.fresh ≡ false }
     {
         let spot = self.spot();
-        let len = spot.rest.len() - behind.len();
+        let len = spot.rest.len() - following.len();
         Here {
-            rest: behind,
+            rest: following,
             place: Place {
                 line: spot.place.line,
                 column: spot.place.column + len as u32,
@@ -150,27 +150,27 @@ impl<'a> Tokens<'a> {
         }
     }
 
-    /// Passes over the next token, whatever stands behind it.
+    /// Passes over the next token, whatever stands after it.
     #[cold]
     #[inline(never)]
-    fn pass_far(&mut self, behind: &'a [u8])
-        requires { behind.now ≡ behind_token (at_token self.old).rest }
+    fn pass_far(&mut self, following: &'a [u8])
+        requires { following.now ≡ following_token (at_token self.old).rest }
         ensures { self.new ≡ after_token self.old }
     {
-        let here = self.behind_next(behind);
+        let here = self.after_next(following);
         *self = tokens_from(self.comment, here);
     }
 
-    /// Passes over the next token, behind which most often a single blank stands.
+    /// Passes over the next token, after which most often a single blank stands.
     #[inline]
     #[tactic(auto, unfolding(crate::specs::Text::at_token))]
-    fn pass(&mut self, behind: &'a [u8])
-        requires { behind.now ≡ behind_token (at_token self.old).rest }
+    fn pass(&mut self, following: &'a [u8])
+        requires { following.now ≡ following_token (at_token self.old).rest }
         ensures { self.new ≡ after_token self.old }
     {
-        let here = self.behind_next(behind);
-        let Some(next) = behind_one_blank(self.comment, here.place, here.rest) else {
-            self.pass_far(behind);
+        let here = self.after_next(following);
+        let Some(next) = after_one_blank(self.comment, here.place, here.rest) else {
+            self.pass_far(following);
             return;
         };
         self.here = Snapshot::of(&here);
@@ -189,7 +189,7 @@ impl<'a> Tokens<'a> {
     {
         let spot = self.spot();
         let number = leading_number(spot.rest, &spot.place, least, greatest)?;
-        self.pass(number.behind);
+        self.pass(number.following);
         Ok(number.value)
     }
 
@@ -209,7 +209,7 @@ impl<'a> Tokens<'a> {
     {
         match short_number(self.spot().rest, least, greatest) {
             Some(number) => {
-                self.pass(number.behind);
+                self.pass(number.following);
                 Ok(number.value)
             }
             None => self.next_any_number(least, greatest),
@@ -261,10 +261,10 @@ impl<'a> Tokens<'a> {
         ensures passed { result ≡ true → self.new ≡ after_token self.old }
         ensures other { result ≡ false → self.new ≡ self.old }
     {
-        match behind_word(self.spot().rest, word) {
+        match following_word(self.spot().rest, word) {
             None => false,
-            Some(behind) => {
-                self.pass(behind);
+            Some(following) => {
+                self.pass(following);
                 true
             }
         }

@@ -4,9 +4,9 @@ use Rattle.std.proofs.lemmas.Bool.{cases_lt}
 use Rattle.std.proofs.lemmas.List.{get_or_append_left, get_or_at, get_or_past}
 use Rattle.draws.specs.Draws.{drawn, steps}
 use Rattle.draws.proofs.Steps.{steps_more, steps_none}
-use Rattle.tsp_windows.specs.Generating.{AreDistances, behind_distance, distance_drawn, with_distance}
+use Rattle.tsp_windows.specs.Generating.{AreDistances, following_distance, distance_drawn, with_distance}
 
--- so many distances are drawn from the seed, and these draws are left
+-- this many distances are drawn from the seed, and these draws are left
 pub record AreDrawn (n seed k x : ℕ) (ds : List ℕ) : Type 0 where
   pub drawn : steps (with_distance n) k [] seed ≡ (ds, x)
   pub distances : AreDistances n k ds
@@ -41,12 +41,12 @@ distances_more n k d ds a short home = record {
       | inr same ↦ (let here : j ≡ length ds = omega arith in subst (λ m. m ≤ 50) (sym (ap (λ i. get_or (ds ++ d ∷ []) i 0) here ∙ get_or_at ds d [] 0 (length ds) refl)) short)
     ]
 
-pub one_more : (n seed k x y d : ℕ) (ds more : List ℕ) → AreDrawn n seed k x ds → d ≡ distance_drawn n k x → y ≡ behind_distance n k x → d ≤ 50 → more ≡ ds ++ d ∷ []
+pub one_more : (n seed k x y d : ℕ) (ds more : List ℕ) → AreDrawn n seed k x ds → d ≡ distance_drawn n k x → y ≡ following_distance n k x → d ≤ 50 → more ≡ ds ++ d ∷ []
     → AreDrawn n seed (k + 1) y more
-one_more n seed k x y d ds more a is behind short pushed =
+one_more n seed k x y d ds more a is following short pushed =
     let long = a.distances.long in
     record {
       drawn = steps_more (with_distance n) k [] ds more seed x y a.drawn
-          (λ i. ((ap (λ e. ds ++ e ∷ []) (ap (λ m. distance_drawn n m x) long ∙ sym is) ∙ sym pushed) i, (ap (λ m. behind_distance n m x) long ∙ sym behind) i));
+          (λ i. ((ap (λ e. ds ++ e ∷ []) (ap (λ m. distance_drawn n m x) long ∙ sym is) ∙ sym pushed) i, (ap (λ m. following_distance n m x) long ∙ sym following) i));
       distances = subst (AreDistances n (k + 1)) (sym pushed) (distances_more n k d ds a.distances short (λ e. is ∙ ap (λ b. cond b 0 (10 + drawn x % 41)) (eq-eqb (k / n) (k % n) e)));
     }

@@ -1,7 +1,7 @@
 pub mod OnTheWay
 pub mod StateLemmas
 pub mod Assembled
-pub mod Behind
+pub mod Following
 pub mod WayLemmas
 pub mod Lost
 pub mod Readings

@@ -85,7 +85,7 @@ distance-reads i small d rest made tail s whole before =
     let read = passes_natural d 0 1000000000 (separator i.nodes (length made)) tail s (omega arith) (omega (arith, here, short)) (omega arith) (blank_separator i.nodes (length made))
     (subst (λ bytes. IsBefore bytes s) (append_assoc (decimal_of (pos d)) (separator i.nodes (length made) ∷ []) tail) before) in
     record {
-      behind = after_token s;
+      following = after_token s;
       read = number_then_ok (pos 0) (pos 1000000000) (pos d) s (λ z t. Ok (made ++ cond (nat_eq (length made / i.nodes) (length made % i.nodes)) 0 (nat_abs z) ∷ [], t)) (sym read.value)
           ∙ ap (λ x. Ok (made ++ x ∷ [], after_token s)) (kept (cases_Bool (nat_eq (length made / i.nodes) (length made % i.nodes))) here (omega (arith, long)));
       before = read.before;
@@ -104,13 +104,13 @@ each_distance i small x xs made tail s held same before = go held.rest held.is h
     go [] is whole = absurd (cc)
     go (d ∷ rest) is whole =
         let first : x ≡ (d, separator i.nodes (length made)) = cc in
-        let behind : xs ≡ marked i.nodes (length made + 1) rest = cc in
+        let following : xs ≡ marked i.nodes (length made + 1) rest = cc in
         let number : x.0 ≡ d = ap (λ (p : ℕ × ℕ). p.0) first in
         let moved : IsBefore ((decimal_of (pos d) ++ separator i.nodes (length made) ∷ []) ++ tail) s = subst (λ (p : ℕ × ℕ). IsBefore ((decimal_of (pos p.0) ++ p.1 ∷ []) ++ tail) s) first before in (
           subst (λ y. ReadsPart (distance_at i.nodes) made (made ++ y ∷ []) tail s) (sym number) (distance-reads i small d rest made tail s whole moved),
           record {
             rest = rest;
-            is = behind ∙ ap (λ k. marked i.nodes k rest) (sym (length-append made (x.0 ∷ [])));
+            is = following ∙ ap (λ k. marked i.nodes k rest) (sym (length-append made (x.0 ∷ [])));
             whole = whole ∙ sym (append_assoc made (d ∷ []) rest) ∙ ap (λ y. (made ++ y ∷ []) ++ rest) (sym number);
           },
         )
@@ -134,7 +134,7 @@ each_window w ws made tail s held same before =
     (subst (λ bytes. IsBefore bytes s) (regroup (decimal_of (pos w.opening)) (decimal_of (pos w.closing)) tail) before) in
     let second = passes_natural w.closing 0 1000000000000 10 tail (after_token s) (omega arith) (omega arith) (omega arith) refl first.before in (
       record {
-        behind = after_token (after_token s);
+        following = after_token (after_token s);
         read = number_then_ok (pos 0) (pos 1000000000000) (pos w.opening) s (opening_in made) (sym first.value)
             ∙ number_then_ok (pos 0) (pos 1000000000000) (pos w.closing) (after_token s) (closing_in made (pos w.opening) (after_token s)) (sym second.value)
             ∙ ap (λ b. cond {A = Result (List Window × TextState) InstanceError} b (Err (record { fault = faults.Window; place = place_of (after_token s) })) (Ok (made ++ w ∷ [], after_token (after_token s)))) (le-ltb w.closing w.opening opens);
@@ -159,15 +159,15 @@ nodes-read i s small same before =
     let xs = marked i.nodes 0 i.distances in
     let first = times_reads (distance_at i.nodes) print_marked add_distance Hash (IsMarked i.nodes i.distances) (each_distance i small) (marked i.nodes 0 i.distances) [] (printed_windows i.windows) s
     (record { rest = i.distances; is = refl; whole = refl }) same (subst (λ bytes. IsBefore (bytes ++ printed_windows i.windows) s) (printed-marked i.nodes 0 i.distances) before) in
-    let second = times_reads window_at printed_window (λ made w. made ++ w ∷ []) Hash (λ _ ws. AreOpen ws) each_window i.windows [] [] first.behind (open_from i.windows small.opens small.closes) (first.comment_is ∙ same)
-    (subst (λ bytes. IsBefore bytes first.behind) (sym (append-nil (printed_windows i.windows))) first.before) in
-    let distances : times (distance_at i.nodes) (i.nodes * i.nodes) [] s ≡ Ok (i.distances, first.behind) =
-    ap (λ k. times (distance_at i.nodes) k [] s) (sym (length-marked i.nodes 0 i.distances ∙ small.square)) ∙ first.read ∙ ap (λ ds. Ok (ds, first.behind)) (fold-marked i.nodes 0 i.distances []) in
-    let windows : times window_at i.nodes [] first.behind ≡ Ok (i.windows, second.behind) =
-    ap (λ k. times window_at k [] first.behind) (sym small.each_window) ∙ second.read ∙ ap (λ ws. Ok (ws, second.behind)) (fold_pushes i.windows []) in
+    let second = times_reads window_at printed_window (λ made w. made ++ w ∷ []) Hash (λ _ ws. AreOpen ws) each_window i.windows [] [] first.following (open_from i.windows small.opens small.closes) (first.comment_is ∙ same)
+    (subst (λ bytes. IsBefore bytes first.following) (sym (append-nil (printed_windows i.windows))) first.before) in
+    let distances : times (distance_at i.nodes) (i.nodes * i.nodes) [] s ≡ Ok (i.distances, first.following) =
+    ap (λ k. times (distance_at i.nodes) k [] s) (sym (length-marked i.nodes 0 i.distances ∙ small.square)) ∙ first.read ∙ ap (λ ds. Ok (ds, first.following)) (fold-marked i.nodes 0 i.distances []) in
+    let windows : times window_at i.nodes [] first.following ≡ Ok (i.windows, second.following) =
+    ap (λ k. times window_at k [] first.following) (sym small.each_window) ∙ second.read ∙ ap (λ ws. Ok (ws, second.following)) (fold_pushes i.windows []) in
     ap (λ (r : Result (List ℕ × TextState) InstanceError). part_then r (λ distances t. part_then (times window_at i.nodes [] t) (λ windows u. end_then u (Ok (made i.nodes distances windows))))) distances
     ∙ ap (λ (r : Result (List Window × TextState) InstanceError). part_then r (λ windows u. end_then u (Ok (made i.nodes i.distances windows)))) windows
-    ∙ end_then_ok second.behind (Ok i) (sym (finishes second.behind second.before))
+    ∙ end_then_ok second.following (Ok i) (sym (finishes second.following second.before))
   where
     made : ℕ → List ℕ → List Window → Instance
     made n ds ws = record { nodes = n; distances = ds; windows = ws }

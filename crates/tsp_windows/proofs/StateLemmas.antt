@@ -42,11 +42,11 @@ pub pending-shown : (w : ℕ) (s r : List ℤ) → r ≡ pending_of w s → rows
 unfolding shown
 pending-shown w s r e = ap (rows.shown w) e
 
--- what stands behind the first cells of a row
+-- what stands after the first cells of a row
 pub rest_of : (w words : ℕ) (s : List ℤ) → words ≡ w → take (length s - words) (drop words s) ≡ drop w s
 rest_of w words s e =
-    let behind = length-drop words s in
-    take_all (length s - words) (drop words s) (omega (arith, behind)) ∙ ap (λ k. drop k s) e
+    let following = length-drop words s in
+    take_all (length s - words) (drop words s) (omega (arith, following)) ∙ ap (λ k. drop k s) e
 
 pub pending-row : (n : ℕ) (s : List ℤ) → is_state_row n s ≡ true → is_pending_row n (pending_of (words_for n) s) ≡ true
 pending-row n s e =

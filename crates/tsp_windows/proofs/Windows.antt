@@ -16,7 +16,7 @@ reached_next n (suc v) ds time way some is on =
     let b : way ≡ way_on n ds v = on ∙ ap (way_on n ds) before in
     λ i. a i + b i
 
--- the window of a node behind the first
+-- the window of a node after the first
 pub window_next : (n v : ℕ) (ds : List ℕ) (time : ℕ) → 1 ≤ v → time ≡ reached_along n ds v → window_along n ds v ≡ record { opening = time - 40; closing = time + 40 }
 window_next n zero ds time some is = absurd (omega arith)
 window_next n (suc v) ds time some is = λ i. record { opening = sym is i - 40; closing = sym is i + 40 }
@@ -48,7 +48,7 @@ all_windows n k a zero ds d some few inside = refl
 all_windows n k a (suc count) ds d some few inside =
     and_from (is_window (window_along n ds a)) _ (one_window n k a ds d some few (omega arith)) (all_windows n k (a + 1) count ds d some few (omega arith))
 
--- so many windows, and the time of the last node that has one
+-- this many windows, and the time of the last node that has one
 pub record AreAlong (n v time : ℕ) (ds : List ℕ) (ws : List Window) : Type 0 where
   pub windows : ws ≡ map (window_along n ds) (range_with_len 0 v)
   pub is_time : time ≡ reached_along n ds (v - 1)

@@ -13,18 +13,18 @@ abbrev pub distance_drawn : ℕ → ℕ → ℕ → ℕ
 distance_drawn n place x = cond (is_home n place) 0 (10 + drawn x % 41)
 
 -- the draws that it leaves
-abbrev pub behind_distance : ℕ → ℕ → ℕ → ℕ
-behind_distance n place x = cond (is_home n place) x (next x)
+abbrev pub following_distance : ℕ → ℕ → ℕ → ℕ
+following_distance n place x = cond (is_home n place) x (next x)
 
 -- the distances with one more
 abbrev pub with_distance : ℕ → List ℕ → ℕ → List ℕ × ℕ
-with_distance n ds x = (ds ++ distance_drawn n (length ds) x ∷ [], behind_distance n (length ds) x)
+with_distance n ds x = (ds ++ distance_drawn n (length ds) x ∷ [], following_distance n (length ds) x)
 
 -- the distances by row
 abbrev pub distances_drawn : ℕ → ℕ → List ℕ
 distances_drawn n seed = (steps (with_distance n) (n * n) [] seed).0
 
--- so many distances by row, of at most 50, and 0 from a node to itself
+-- this many distances by row, of at most 50, and 0 from a node to itself
 pub record AreDistances (n count : ℕ) (ds : List ℕ) : Type 0 where
   pub long : length ds ≡ count
   pub short : (k : ℕ) → get_or ds k 0 ≤ 50
@@ -43,7 +43,7 @@ reached_along n ds (suc v) = reached_along n ds v + way_on n ds v
 abbrev pub home_again : ℕ → List ℕ → ℕ
 home_again n ds = reached_along n ds (n - 1) + get_or ds ((n - 1) * n) 0
 
--- the window of a node: from 40 before it is reached, but not before 0, to 40 behind; for node 0 from 0 to 40 behind its second time
+-- the window of a node: from 40 before it is reached, but not before 0, to 40 after; for node 0 from 0 to 40 after its second time
 abbrev pub window_along : ℕ → List ℕ → ℕ → Window
 window_along n ds zero = record { opening = 0; closing = home_again n ds + 40 }
 window_along n ds (suc v) = record { opening = reached_along n ds (suc v) - 40; closing = reached_along n ds (suc v) + 40 }

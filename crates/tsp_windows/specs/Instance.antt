@@ -4,7 +4,7 @@ use Rattle.std.specs.List.{list_all}
 use Rattle.node_sets.specs.Sums.{all_below, least_amount}
 pub use Rattle.tsp_windows.specs.declared.window.Window.{Window}
 
--- so many nodes, the distances between them by row, and a window for each
+-- this many nodes, the distances between them by row, and a window for each
 pub record Instance : Type 0 where
   pub nodes : ℕ
   pub distances : List ℕ
@@ -65,7 +65,7 @@ abbrev pub windows_of : List ℤ → List Window
 windows_of (a ∷ (b ∷ rest)) = record { opening = unsigned_abs a; closing = unsigned_abs b } ∷ windows_of rest
 windows_of _ = []
 
--- the instance with so many nodes that the numbers behind spell
+-- the instance with this many nodes that the numbers after spell
 abbrev pub instance_with : ℕ → List ℤ → Instance
 instance_with n rest = record { nodes = n; distances = map unsigned_abs (take (n * n) rest); windows = windows_of (drop (n * n) rest) }
 

@@ -53,7 +53,7 @@ may_return i t d = nat_eq d 0 && (all_below i.nodes (λ v. not (t.pending.must v
 abbrev pub may_go : Instance → ℕ → TourState → ℕ → Bool
 may_go i k t d = cond (nat_lt (k + 1) i.nodes) (may_visit i t d) (may_return i t d)
 
--- the state behind a visit: at the node, which is done by when it is left
+-- the state after a visit: at the node, which is done by when it is left
 unfoldable pub moved : Instance → TourState → ℕ → TourState
 moved i t d = record { positions = λ p. nat_eq p d; pending = done t.pending d (departure i t d) }
 

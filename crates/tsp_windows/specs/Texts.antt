@@ -9,13 +9,13 @@ use Rattle.tokens.specs.Grammar.{number_then, part_then, end_then, times}
 use Rattle.tokens.specs.declared.instance_error.InstanceFault.TheVariants as faults
 use Rattle.tsp_windows.specs.Instance.{Instance, Window}
 
--- a distance behind those before it: from 0 to 10^9 in the text, and 0 from a node to itself
+-- a distance after those before it: from 0 to 10^9 in the text, and 0 from a node to itself
 unfoldable pub distance_at : ℕ → List ℕ → TextState → Result (List ℕ × TextState) InstanceError
 distance_at n made s =
     number_then (pos 0) (pos 1000000000) s (λ z t.
     Ok (made ++ cond (nat_eq (length made / n) (length made % n)) 0 (unsigned_abs z) ∷ [], t))
 
--- a window behind those before it: two times from 0 to 10^12, of which the closing is not before the opening
+-- a window after those before it: two times from 0 to 10^12, of which the closing is not before the opening
 unfoldable pub window_at : List Window → TextState → Result (List Window × TextState) InstanceError
 window_at made s =
     number_then (pos 0) (pos 1000000000000) s (λ opening t.
@@ -24,7 +24,7 @@ window_at made s =
     (Err (record { fault = faults.Window; place = place_of t }))
     (Ok (made ++ record { opening = unsigned_abs opening; closing = unsigned_abs closing } ∷ [], u))))
 
--- the instance with so many nodes that stands behind them in the text, to its end
+-- the instance with this many nodes that stands after them in the text, to its end
 unfoldable pub nodes_at : ℕ → TextState → Result Instance InstanceError
 nodes_at n s =
     part_then (times (distance_at n) (n * n) [] s) (λ distances t.
@@ -35,7 +35,7 @@ nodes_at n s =
 unfoldable pub spelled : List ℕ → Result Instance InstanceError
 spelled bytes = number_then (pos 1) (pos 300) (text_start Hash bytes) (λ n s. nodes_at (unsigned_abs n) s)
 
--- numbers behind one another, each with the byte behind it: LF at the end of a row of so many, else a space
+-- numbers after one another, each with the byte after it: LF at the end of a row of this many, else a space
 abbrev pub separator : ℕ → ℕ → ℕ
 separator n k = cond (nat_eq ((k + 1) % n) 0) 10 32
 

@@ -3,7 +3,7 @@
 ghost use Rattle.std.specs.Prelude.{◌≡◌, ◌+◌, ◌*◌, ◌-◌, ◌<◌, ◌≤◌, ◌^◌, length, get_or, true, IfOk};
 ghost use Rattle.std.specs.List.{list_all};
 ghost use Rattle.tsp_windows.specs.Instance.{is_window};
-ghost use Rattle.tsp_windows.specs.Generating.{distance_drawn, behind_distance, distances_drawn, AreDistances, way_on, home_again, windows_along, generated};
+ghost use Rattle.tsp_windows.specs.Generating.{distance_drawn, following_distance, distances_drawn, AreDistances, way_on, home_again, windows_along, generated};
 ghost use Rattle.tsp_windows.specs.Shown.{instance_in};
 
 use crate::instance::TspWindows;
@@ -12,14 +12,14 @@ use crate::window::Window;
 use draws::Draws;
 use std::alloc::{AllocError, Global};
 
-/// How long before and how long behind the time of a node on the way its window is open.
+/// How long before and how long after the time of a node on the way its window is open.
 const SLACK: u64 = 40;
 
 /// Draws the distance at a place in the rows: from 10 to 50, and 0 without a draw from a node to itself.
 fn draw_distance(draws: &mut Draws, nodes: usize, place: usize) -> u32
     requires { 1 ≤ nodes }
     ensures distance { result ≡ distance_drawn nodes place draws.old }
-    ensures behind { draws.new ≡ behind_distance nodes place draws.old }
+    ensures following { draws.new ≡ following_distance nodes place draws.old }
     ensures short { result ≤ 50 }
 {
     if place / nodes == place % nodes {

@@ -17,9 +17,9 @@ use node_sets::{
     clear, contains, is_empty, is_set, is_subset, least, union_with, words_for, write_one,
     write_others, write_split,
 };
-use pending_rows::{is_row, left, left_behind, next_open, parts_of};
+use pending_rows::{is_row, left, left_after, next_open, parts_of};
 
-/// When the node of an allowed decision is reached, and how many nodes must be visited behind it.
+/// When the node of an allowed decision is reached, and how many nodes must be visited after it.
 #[derive(Clone, Copy)]
 struct Reached {
     arrival: u64,
@@ -129,7 +129,7 @@ impl TspWindows {
     }
 
     /// How a node other than 0 that must or may be visited is reached, or none where it is no such node or is not reached in
-    /// time. Node 0 never must or may be. So many nodes as the rank must be visited.
+    /// time. Node 0 never must or may be. This many nodes as the rank must be visited.
     #[inline(always)]
     fn visited(&self, s: &[i64], rank: i64, to: usize) -> Option<Reached>
         requires state { IsTrue (is_state_row self.now.nodes s.now) }
@@ -144,14 +144,14 @@ impl TspWindows {
         if time >= self.too_late[to] {
             return None;
         }
-        let left = left_behind(self.nodes, pending_of(self.nodes, s), rank, to)?;
+        let left = left_after(self.nodes, pending_of(self.nodes, s), rank, to)?;
         let way = self.leg(s, to)?;
         let arrival = self.in_time(to, time + u64::from(way))?;
         Some(Reached { arrival, left })
     }
 
     /// When node 0 is reached again, or none where it is another node, a node is left to be visited or it is not reached in
-    /// time. So many nodes as the rank must be visited.
+    /// time. This many nodes as the rank must be visited.
     #[inline(always)]
     fn returned(&self, s: &[i64], rank: i64, to: usize) -> Option<u64>
         requires state { IsTrue (is_state_row self.now.nodes s.now) }
@@ -180,7 +180,7 @@ impl TspWindows {
         }
     }
 
-    /// How the node of a decision is reached, or none where the decision is not allowed. So many nodes as the rank must be
+    /// How the node of a decision is reached, or none where the decision is not allowed. This many nodes as the rank must be
     /// visited.
     #[inline(always)]
     fn reached(&self, k: usize, s: &[i64], rank: i64, to: usize) -> Option<Reached>
@@ -237,7 +237,7 @@ impl TspWindows {
         left(self.nodes, pending_of(self.nodes, s))
     }
 
-    /// The sum of the least ways to the nodes that must be visited and home, or none where the state is lost. So many nodes as
+    /// The sum of the least ways to the nodes that must be visited and home, or none where the state is lost. This many nodes as
     /// the rank must be visited.
     fn way_left(&self, k: usize, s: &[i64], rank: i64) -> Option<u64>
         requires layer { k < self.now.nodes }
@@ -277,7 +277,7 @@ fn write_root(out: &mut [i64], model: &TspWindows)
     time[0] = model.windows[0].opening as i64;
 }
 
-/// Writes the state behind a visit, by when the node is left. A set takes at most 10 words, which is said where it can be seen by a
+/// Writes the state after a visit, by when the node is left. A set takes at most 10 words, which is said where it can be seen by a
 /// compiler.
 #[inline]
 fn write_moved(out: &mut [i64], model: &TspWindows, s: &[i64], to: usize, departure: u64)

@@ -12,7 +12,7 @@ use crate::window::Window;
 use std::alloc::{AllocError, Global};
 use tokens::{Comment, InstanceError, InstanceFault, ReadModelError, Tokens};
 
-/// Reads a distance behind those before it.
+/// Reads a distance after those before it.
 #[tactic(auto, unfolding(crate::specs::Texts::distance_at))]
 fn read_distance(
     nodes: usize,
@@ -33,7 +33,7 @@ fn read_distance(
     Ok(())
 }
 
-/// Reads a window behind those before it.
+/// Reads a window after those before it.
 #[tactic(auto, unfolding(crate::specs::Texts::window_at))]
 fn read_window(tokens: &mut Tokens, windows: &mut Vec<Window>) -> Result<(), ReadModelError>
     ensures { Reads (λ _. (windows.new.items, tokens.new)) result (window_at windows.old.items tokens.old) }
@@ -54,7 +54,7 @@ fn read_window(tokens: &mut Tokens, windows: &mut Vec<Window>) -> Result<(), Rea
     Ok(())
 }
 
-/// Reads so many distances.
+/// Reads this many distances.
 #[tactic(auto, using(tokens::proofs::Chains::times_steps))]
 fn read_distances(
     nodes: usize,
@@ -71,7 +71,7 @@ fn read_distances(
     Ok(())
 }
 
-/// Reads so many windows.
+/// Reads this many windows.
 #[tactic(auto, using(tokens::proofs::Chains::times_steps))]
 fn read_windows(
     count: usize,
@@ -107,7 +107,7 @@ pub(crate) fn problem_of(
     })
 }
 
-/// Reads what stands behind the number of nodes, to the end.
+/// Reads what stands after the number of nodes, to the end.
 #[tactic(auto, unfolding(crate::specs::Texts::nodes_at), using(tokens::proofs::Chains::part_fails))]
 fn read_nodes(
     alloc: Global,

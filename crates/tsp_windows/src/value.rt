@@ -24,7 +24,7 @@ fn ends_at_home(visits: &[u32]) -> bool
     false
 }
 
-/// Whether each of so many nodes stands in the list once, and node 0 is the last.
+/// Whether each of this many nodes stands in the list once, and node 0 is the last.
 fn is_order(visits: &[u32], nodes: usize) -> bool
     ensures { result ≡ words.is_order nodes visits.now }
 {

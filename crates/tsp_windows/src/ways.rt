@@ -101,7 +101,7 @@ pub(crate) fn least_ways(
     Ok(ways)
 }
 
-/// The first moment at which it is too late to leave for each node by the least way to it: the first one behind its closing, less
+/// The first moment at which it is too late to leave for each node by the least way to it: the first one after its closing, less
 /// the way.
 pub(crate) fn moments_too_late(
     alloc: Global,
@@ -115,8 +115,8 @@ pub(crate) fn moments_too_late(
 {
     let mut moments = Vec::with_capacity(alloc, nearest.len())?;
     'nodes: for to in 0..nearest.len() {
-        let behind = windows[to].closing + 1;
-        moments.push(behind.saturating_sub(u64::from(nearest[to])))?;
+        let following = windows[to].closing + 1;
+        moments.push(following.saturating_sub(u64::from(nearest[to])))?;
     }
     Ok(moments)
 }

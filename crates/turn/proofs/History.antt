@@ -1,4 +1,4 @@
--- Moves one behind the other.
+-- Moves one after the other.
 use Rattle.std.proofs.Common.{◌≡◌, ℕ, List, [], ◌∷◌, ◌++◌, ◌⊎◌, ⊎_elim, subst, sym, refl}
 use Rattle.turn.specs.History.{Moved, HasMoved}
 

@@ -1,4 +1,4 @@
--- The history of a value: moves, one behind the other.
+-- The history of a value: moves, one after the other.
 use Rattle.std.specs.Prelude.{◌≡◌, ℕ, List, [], ◌∷◌}
 
 module _ {V : Type 0} (moves : V → V → ℕ → Type 0) where

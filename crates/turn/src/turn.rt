@@ -53,7 +53,7 @@ impl<V: Turned> Turn<V> {
     ghost use Rattle.turn.specs.Order.{NoLess};
     ghost use Rattle.turn.specs.Seats.{first_of, seats_of, seen_of, out_of, left_by, number_of, IsSeatOf, IsFresh, IsHolding, IsMaker, IsWhole};
 
-    /// A turn over the value, with so many seats. Fails only for want of memory, and then the value comes back as it was.
+    /// A turn over the value, with this many seats. Fails only for want of memory, and then the value comes back as it was.
     pub fn new(alloc: Global, value: V, seats: u32) -> Result<(Turn<V>, Vec<Seat<V>>), NoTurn<V>>
         requires some { 1 ≤ seats }
         requires home { (number : ℕ) → V.out value number ≡ None }

@@ -11,7 +11,7 @@ pub length-shown : (words : ℕ) (parents : List ℤ) (ms : List Made) (cells : 
 length-shown words parents [] cells = refl
 length-shown words parents (m ∷ ms) cells = ap suc (length-shown words parents ms (drop words cells))
 
--- one more candidate, whose row stands behind the others
+-- one more candidate, whose row stands after the others
 shown-push : (words : ℕ) (parents : List ℤ) (ms : List Made) (cells : List ℤ) (m : Made) (row : List ℤ) → length cells ≡ length ms * words → length row ≡ words
     → all_shown words parents (ms ++ m ∷ []) (cells ++ row) ≡ all_shown words parents ms cells ++ shown words parents m row ∷ []
 shown-push words parents [] cells m row size one =
@@ -31,7 +31,7 @@ state-stays words place parents more fits =
     let cut = length-drop place parents in
     ap (take words) (drop-append-le place parents more (omega arith)) ∙ take-append-le words (drop place parents) more (omega (arith, cut, fits))
 
--- more states behind those of the parents change nothing
+-- more states after those of the parents change nothing
 shown-more : (words : ℕ) (parents more : List ℤ) (ms : List Made) (cells : List ℤ) → Each (λ (m : Made). m.state + words ≤ length parents) ms
     → all_shown words (parents ++ more) ms cells ≡ all_shown words parents ms cells
 shown-more words parents more [] cells h = refl

@@ -5,7 +5,7 @@ use Rattle.dp_model.specs.Lists.{Each}
 use Rattle.wide_layers.specs.declared.piece.Made.{Made}
 use Rattle.wide_layers.specs.Candidates.{Candidate, IsRight}
 
--- rows of so many cells, and the candidates
+-- rows of this many cells, and the candidates
 pub record PieceView : Type 0 where
   pub words : ℕ
   pub candidates : List Candidate

@@ -23,7 +23,7 @@ struct Parent<'s> {
     rank: i64,
 }
 
-/// Puts the candidate of a node by a decision behind the others, where it is allowed.
+/// Puts the candidate of a node by a decision after the others, where it is allowed.
 fn push_by<M: DpModel>(
     model: &M,
     k: usize,
@@ -49,7 +49,7 @@ fn push_by<M: DpModel>(
     piece.push(parent.place, parent.state, decision, extended, row)
 }
 
-/// Puts all candidates of a node behind the others, the lesser decision first.
+/// Puts all candidates of a node after the others, the lesser decision first.
 fn push_all<M: DpModel>(
     model: &M,
     k: usize,

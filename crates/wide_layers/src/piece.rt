@@ -60,7 +60,7 @@ fn row_at(cells: &[i64], words: usize, place: usize) -> &[i64]
     &cells[place..place + words]
 }
 
-/// The row at the place among rows of so many cells.
+/// The row at the place among rows of this many cells.
 #[inline(always)]
 fn row_of(cells: &[i64], words: usize, place: usize) -> &[i64]
     requires { place * words + words ≤ length cells.now }
@@ -101,7 +101,7 @@ fn extended_of(made: Made) -> Extended
     }
 }
 
-/// Puts a row behind the others.
+/// Puts a row after the others.
 fn put(cells: &mut Vec<i64>, row: &[i64])
     requires { length cells.old.items + length row.now ≤ vec_capacity cells.old }
     ensures { cells.new.items ≡ cells.old.items ++ row.now }
@@ -109,7 +109,7 @@ fn put(cells: &mut Vec<i64>, row: &[i64])
     let _ = cells.extend_from_slice(row);
 }
 
-/// The place of the state among those of the parents, behind which it is put where it is not the last one there.
+/// The place of the state among those of the parents, after which it is put where it is not the last one there.
 fn enter(parents: &mut Vec<i64>, state: &[i64]) -> usize
     requires { length parents.old.items + length state.now ≤ vec_capacity parents.old }
     ensures kept { (more : List ℤ) × (parents.new.items ≡ parents.old.items ++ more) }
@@ -145,7 +145,7 @@ impl Piece {
         self.made.len()
     }
 
-    /// Takes all candidates out. The rows of the next ones are to have so many cells.
+    /// Takes all candidates out. The rows of the next ones are to have this many cells.
     pub fn clear(&mut self, words: usize)
         ensures { self.new ≡ record { words = words; candidates = [] } }
     {
@@ -155,7 +155,7 @@ impl Piece {
         self.cells.clear();
     }
 
-    /// Puts a candidate behind the others: the parent's place in the layer and its state, the decision with what it gains, and the
+    /// Puts a candidate after the others: the parent's place in the layer and its state, the decision with what it gains, and the
     /// state that it leads to with its rank. It fails only for want of memory.
     pub fn push(
         &mut self,

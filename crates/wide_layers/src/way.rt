@@ -37,7 +37,7 @@ pub enum Way<'r, R: Threads + Sync> {
     Wide(Wide<'r, R>),
 }
 
-/// Where the part with this number begins, of parts of so many nodes.
+/// Where the part with this number begins, of parts of this many nodes.
 fn start_of(i: usize, size: usize, nodes: usize) -> usize
     ensures { result ≤ nodes }
 {
@@ -72,7 +72,7 @@ fn make_part<M: DpModel>(
 }
 
 impl<'r, R: Threads + Sync> Wide<'r, R> {
-    /// So many parts, from 1 to 64. It takes no memory.
+    /// This many parts, from 1 to 64. It takes no memory.
     pub fn new(rt: &'r R, alloc: Global, parts: u32) -> Wide<'r, R>
         requires some { 0 < parts }
         requires few { parts ≤ 64 }
@@ -142,7 +142,7 @@ fn make_parts<R: Threads + Sync, M: DpModel>(
 }
 
 impl<'r, R: Threads + Sync> Way<'r, R> {
-    /// The way in so many parts, from 1 to 64; with one it is the plain one. It takes no memory.
+    /// The way in this many parts, from 1 to 64; with one it is the plain one. It takes no memory.
     pub fn in_parts(rt: &'r R, alloc: Global, parts: u32) -> Way<'r, R>
         requires some { 0 < parts }
         requires few { parts ≤ 64 }

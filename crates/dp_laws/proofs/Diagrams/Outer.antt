@@ -84,11 +84,11 @@ before-same (o ∷ front) c h =
     ] refl in
     ap (λ v. v || is_below_one front c) one ∙ ap (λ v. begins o.decisions c.decisions || v) rest
 
--- those behind are no proper prefixes
-behind-none : (rest : List Subproblem) (c : Subproblem) → Each (λ o. length c.decisions ≤ length o.decisions) rest → is_below_one rest c ≡ false
-behind-none [] c h = refl
-behind-none (o ∷ rest) c h =
-    let later = behind-none rest c h.1 in
+-- those after are no proper prefixes
+following-none : (rest : List Subproblem) (c : Subproblem) → Each (λ o. length c.decisions ≤ length o.decisions) rest → is_below_one rest c ≡ false
+following-none [] c h = refl
+following-none (o ∷ rest) c h =
+    let later = following-none rest c h.1 in
     let low = h.0 in
     let long : nat_lt (length o.decisions) (length c.decisions) ≡ false = grind arith in
     rw (long, later) refl
@@ -99,13 +99,13 @@ below-append (x ∷ xs) ys c =
     let rest = below-append xs ys c in
     elim (nat_lt (length x.decisions) (length c.decisions) && begins x.decisions c.decisions) as (λ v. (v || is_below_one (xs ++ ys) c) ≡ ((v || is_below_one xs c) || is_below_one ys c)) [ true ↦ refl | false ↦ rest ]
 
-has-behind : {X : Type 0} (xs : List X) (y : X) (ys : List X) → Has y (xs ++ y ∷ ys)
-has-behind [] y ys = inl refl
-has-behind (x ∷ xs) y ys = inr (has-behind xs y ys)
+has-following : {X : Type 0} (xs : List X) (y : X) (ys : List X) → Has y (xs ++ y ∷ ys)
+has-following [] y ys = inl refl
+has-following (x ∷ xs) y ys = inr (has-following xs y ys)
 
 two-parts : {X : Type 0} (R : X → X → Type 0) (xs : List X) (y : X) (ys : List X) → EachTwo R (xs ++ y ∷ ys) → Each (λ x. R x y) xs × Each (R y) ys
 two-parts R [] y ys h = (tt, h.0)
-two-parts R (x ∷ xs) y ys h = let rest = two-parts R xs y ys h.1 in ((each-has (R x) (xs ++ y ∷ ys) y h.0 (has-behind xs y ys), rest.0), rest.1)
+two-parts R (x ∷ xs) y ys h = let rest = two-parts R xs y ys h.1 in ((each-has (R x) (xs ++ y ∷ ys) y h.0 (has-following xs y ys), rest.0), rest.1)
 
 each-then : (c : Subproblem) (cs : List Subproblem) → Each (Stands c) cs → Each (λ o. length c.decisions ≤ length o.decisions) cs
 each-then c [] h = tt
@@ -120,7 +120,7 @@ outer : (whole front kept cs : List Subproblem) → whole ≡ front ++ cs → Ea
 outer whole front kept [] are two same = refl
 outer whole front kept (c ∷ cs) are two same =
     let parts = two-parts Stands front c cs (subst (EachTwo Stands) are two) in
-    let none : is_below_one (c ∷ cs) c ≡ false = behind-none (c ∷ cs) c (omega arith, each-then c cs parts.1) in
+    let none : is_below_one (c ∷ cs) c ≡ false = following-none (c ∷ cs) c (omega arith, each-then c cs parts.1) in
     let test : is_below_one whole c ≡ passes path_of kept c.decisions =
     ap (λ l. is_below_one l c) are ∙ (below-append front (c ∷ cs) c ∙ (or-none (is_below_one front c) (is_below_one (c ∷ cs) c) none ∙ (before-same front c parts.0 ∙ same c.decisions))) in
     let next : whole ≡ (front ++ c ∷ []) ++ cs = are ∙ sym (append_assoc front (c ∷ []) cs) in

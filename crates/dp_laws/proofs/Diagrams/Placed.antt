@@ -16,11 +16,11 @@ use Rattle.dp_laws.proofs.Diagrams.LastExact.{all-exact}
 
 -- a child among the nodes from the place i on
 pub record AtPlace (test : DdNode → Bool) (dp : Dp) (k i : ℕ) (nodes : List DdNode) (c : ChildAt) : Type 0 where
-  pub behind : ℕ
+  pub following : ℕ
   pub node : DdNode
-  pub at : slice_get nodes behind ≡ Some node
+  pub at : slice_get nodes following ≡ Some node
   pub depth : c.depth ≡ k
-  pub place : c.place ≡ i + behind
+  pub place : c.place ≡ i + following
   pub tested : test node ≡ true
   pub bound : bound_of dp k node ≡ Some c.bound
 
@@ -30,13 +30,13 @@ in-places test dp k i (node ∷ nodes) c h =
     let rest = places_where test dp k (i + 1) nodes in
     let later : Has c rest → AtPlace test dp k i (node ∷ nodes) c = λ has. (
     let a = in-places test dp k (i + 1) nodes c has in
-    record { behind = suc a.behind; node = a.node; at = a.at; depth = a.depth; place = (let e = a.place in omega arith); tested = a.tested; bound = a.bound }) in
+    record { following = suc a.following; node = a.node; at = a.at; depth = a.depth; place = (let e = a.place in omega arith); tested = a.tested; bound = a.bound }) in
     elim (test node) as (λ b. test node ≡ b → Has c (cons_option (cond b (option_map (λ bound. record { depth = k; place = i; bound = bound }) (bound_of dp k node)) None) rest) → AtPlace test dp k i (node ∷ nodes) c) [
       | true ↦ λ e. elim (bound_of dp k node) as (λ o. bound_of dp k node ≡ o → Has c (cons_option (option_map (λ bound. record { depth = k; place = i; bound = bound }) o) rest) → AtPlace test dp k i (node ∷ nodes) c) [
         | None ↦ λ f has. later has
         | Some bound ↦ λ f has. elim has as (λ _. AtPlace test dp k i (node ∷ nodes) c) [
           | inl same ↦ record {
-            behind = 0;
+            following = 0;
             node = node;
             at = refl;
             depth = ap (λ (x : ChildAt). x.depth) (sym same);
@@ -81,7 +81,7 @@ in-borders-at dp k (layer ∷ next ∷ rest) c h =
     elim (Has-append-cases c (places_where (is_border next) dp k 0 layer) (all_borders_at dp (k + 1) (next ∷ rest)) h) as (λ _. AtBorder dp k (layer ∷ next ∷ rest) c) [
       | inl here ↦ (
           let a = in-places (is_border next) dp k 0 layer c here in
-          let place : c.place ≡ a.behind = a.place ∙ plain a.behind in
+          let place : c.place ≡ a.following = a.place ∙ plain a.following in
           record {
             under = 0;
             layer = layer;
@@ -150,11 +150,11 @@ last-placed dp p w t d short h (Some depth) e c has =
       | None ↦ λ at has. absurd has
       | Some layer ↦ λ at has. (
           let a = in-places (λ node. true) dp k 0 layer c has in
-          let place : c.place ≡ a.behind = a.place ∙ plain a.behind in
+          let place : c.place ≡ a.following = a.place ∙ plain a.following in
           let is : slice_get layer c.place ≡ Some a.node = ap (slice_get layer) place ∙ a.at in
           let depth_is = a.depth in
           let less : k - d.first < exact_layers dp.vars (length p) d.first_reduced = rw e (omega arith) in
-          let exact = all-exact dp p w t d h (exact_layers dp.vars (length p) d.first_reduced) (k - d.first) refl less layer at a.node (Has-at layer a.behind a.node a.at) in
+          let exact = all-exact dp p w t d h (exact_layers dp.vars (length p) d.first_reduced) (k - d.first) refl less layer at a.node (Has-at layer a.following a.node a.at) in
           let same : c.depth - d.first ≡ k - d.first = omega arith in
           record {
             node = a.node;

@@ -70,7 +70,7 @@ top-of : (xs : List ℤ) (z : ℤ) → Has z xs → IsTop xs (unwrap_or (greates
 top-of [] z h = absurd h
 top-of (x ∷ xs) z h = record { has = greatest_from-in x xs; most = λ y hy. greatest-most (x ∷ xs) (greatest_from x xs) y refl hy }
 
--- Places before and behind the width.
+-- Places before and after the width.
 
 zero_plus : (n : ℕ) → 0 + n ≡ n
 zero_plus n = omega arith
@@ -80,12 +80,12 @@ slice_get-drop zero i xs = ap (slice_get xs) (sym (zero_plus i))
 slice_get-drop (suc n) i [] = refl
 slice_get-drop (suc n) i (x ∷ xs) = slice_get-drop n i xs ∙ (let e : suc (n + i) ≡ suc n + i = omega arith in ap (slice_get (x ∷ xs)) e)
 
--- what stands behind n members of a list
-pub behind : {X : Type 0} (xs ys : List X) (n i : ℕ) → length xs ≡ n → slice_get (xs ++ ys) (n + i) ≡ slice_get ys i
-behind [] ys zero i e = ap (slice_get ys) (zero_plus i)
-behind [] ys (suc n) i e = absurd (omega arith)
-behind (x ∷ xs) ys zero i e = absurd (omega arith)
-behind (x ∷ xs) ys (suc n) i e = (let sum : suc n + i ≡ suc (n + i) = omega arith in ap (slice_get (x ∷ xs ++ ys)) sum) ∙ behind xs ys n i (omega arith)
+-- what stands after n members of a list
+pub following : {X : Type 0} (xs ys : List X) (n i : ℕ) → length xs ≡ n → slice_get (xs ++ ys) (n + i) ≡ slice_get ys i
+following [] ys zero i e = ap (slice_get ys) (zero_plus i)
+following [] ys (suc n) i e = absurd (omega arith)
+following (x ∷ xs) ys zero i e = absurd (omega arith)
+following (x ∷ xs) ys (suc n) i e = (let sum : suc n + i ≡ suc (n + i) = omega arith in ap (slice_get (x ∷ xs ++ ys)) sum) ∙ following xs ys n i (omega arith)
 
 some-at : {X : Type 0} (xs : List X) (i : ℕ) → i < length xs → (x : X) × (slice_get xs i ≡ Some x)
 some-at [] i h = absurd (omega arith)
@@ -122,7 +122,7 @@ module _ (dp : Dp) (laws : IsLawful dp) (k n : ℕ) (layer : List DdNode) (wide 
   pub covered : CoversAll dp k (drop n layer)
   covered = covers-all dp laws k (drop n layer) (let long = length-drop n layer in omega arith) (λ x h. states x (back-has x h))
 
-  -- a node behind the width, with its gap
+  -- a node after the width, with its gap
   lifted-in : (x : DdNode) → Has x (drop n layer) → (g : ℤ) → dp.gap k into x.row ≡ Some g → Has (x.value +ℤ g) (filter_map (λ (node : DdNode). add_some node.value (dp.gap k into node.row)) (drop n layer))
   lifted-in x h g e = Has-filter_map (λ (node : DdNode). add_some node.value (dp.gap k into node.row)) (drop n layer) x (x.value +ℤ g) h (ap (add_some x.value) e)
 
@@ -153,7 +153,7 @@ module _ (dp : Dp) (laws : IsLawful dp) (k n : ℕ) (layer : List DdNode) (wide 
   back-redirect i x e =
       let same : n + 1 - 1 ≡ n = omega arith in
       subst (λ m. slice_get (staying m ++ map (merge_redirect dp k m (row_of_all dp k (drop m layer))) (drop m layer)) (n + i) ≡ Some (merge_redirect dp k n into x)) (sym same)
-      (behind (staying n) (map (merge_redirect dp k n into) (drop n layer)) n i (length-staying n) ∙ (slice_get-map (merge_redirect dp k n into) (drop n layer) i ∙ ap (option_map (merge_redirect dp k n into)) (slice_get-drop n i layer ∙ e)))
+      (following (staying n) (map (merge_redirect dp k n into) (drop n layer)) n i (length-staying n) ∙ (slice_get-map (merge_redirect dp k n into) (drop n layer) i ∙ ap (option_map (merge_redirect dp k n into)) (slice_get-drop n i layer ∙ e)))
 
   back-goes : (i : ℕ) (x : DdNode) → slice_get layer (n + i) ≡ Some x → (g : ℤ) → dp.gap k into x.row ≡ Some g → GoesTo dp k (merged_layer dp k (n + 1) layer) x (record { place = n; longer = g })
   back-goes i x e g is =
@@ -177,7 +177,7 @@ module _ (dp : Dp) (laws : IsLawful dp) (k n : ℕ) (layer : List DdNode) (wide 
         (record { place = n; longer = g.gap }, goes, back-goes more.0 x at g.gap g.is))
   ]
 
-  -- the node that stays whole behind the width is the one of the greatest value
+  -- the node that stays whole after the width is the one of the greatest value
   merged-whole : GoesWhole layer (merge_redirects dp k (n + 1) layer) n (merged_node dp k (drop n layer))
   merged-whole =
       let first = some-at (drop n layer) 0 (let long = length-drop n layer in omega arith) in
@@ -198,7 +198,7 @@ module _ (dp : Dp) (laws : IsLawful dp) (k n : ℕ) (layer : List DdNode) (wide 
             let same : old.0 ≡ y = same-Some old.0 y (sym (front-at j old.0 less old.1) ∙ e) in
             record { from = j; old = old.0; at = old.1; longer = pos 0; goes = front-redirect j less; value = (let v = ap (λ (x : DdNode). x.value) same in omega (arith, ints)) })
         | inr more ↦ (
-            let at : slice_get (merged_node dp k (drop n layer) ∷ []) more.0 ≡ Some y = sym (behind (take n layer) (merged_node dp k (drop n layer) ∷ []) n more.0 front-long) ∙ (ap (λ l. slice_get l (n + more.0)) (sym shape) ∙ (ap (slice_get (merged_layer dp k (n + 1) layer)) (sym more.1) ∙ e)) in
+            let at : slice_get (merged_node dp k (drop n layer) ∷ []) more.0 ≡ Some y = sym (following (take n layer) (merged_node dp k (drop n layer) ∷ []) n more.0 front-long) ∙ (ap (λ l. slice_get l (n + more.0)) (sym shape) ∙ (ap (slice_get (merged_layer dp k (n + 1) layer)) (sym more.1) ∙ e)) in
             let within = slice_get_within (merged_node dp k (drop n layer) ∷ []) more.0 y at in
             let zero_more : more.0 ≡ 0 = omega arith in
             let place : j ≡ n = (let e' = more.1 in omega arith) in

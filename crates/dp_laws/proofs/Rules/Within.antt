@@ -25,7 +25,7 @@ use Rattle.dp_laws.specs.Rules.Within.{IsBetween, IsLayerWithin, ReachesWithin, 
 use Rattle.dp_laws.proofs.Diagrams.Places.{same-Some, Has-at, Has-filter_map-from, slice_get-append}
 use Rattle.dp_laws.proofs.Rules.Expanded.{allowed-of, new-node, leads-into, with_arcs_of, arc-of, most-reaching}
 use Rattle.dp_laws.proofs.Rules.Built.{in-take}
-use Rattle.dp_laws.proofs.Rules.Merged.{behind, length-staying, staying-at, place-of, covered, merge-redirects-of}
+use Rattle.dp_laws.proofs.Rules.Merged.{following, length-staying, staying-at, place-of, covered, merge-redirects-of}
 use Rattle.dp_laws.proofs.Rules.Pruned.{pruned-has, pruned-goes, few-pruned}
 use Rattle.dp_laws.proofs.Rules.Redirecting.{GoesTo, followed_node}
 
@@ -226,7 +226,7 @@ taken-at (suc w) (suc i) (y ∷ xs) x less e = taken-at w i xs x (omega arith) e
 none-after : (w i n : ℕ) (l : Redirect) → w ≤ i → slice_get (staying w ++ replicate n None) i ≡ Some (Some l) → ⊥
 none-after w i n l more e =
     let at : slice_get (staying w ++ replicate n None) (w + (i - w)) ≡ Some (Some l) = (let same : w + (i - w) ≡ i = omega arith in ap (slice_get (staying w ++ replicate n None)) same ∙ e) in
-    all-none n (i - w) l (sym (behind (staying w) (replicate n None) w (i - w) (length-staying w)) ∙ at)
+    all-none n (i - w) l (sym (following (staying w) (replicate n None) w (i - w) (length-staying w)) ∙ at)
 
 pub keep-first-within : (dp : Dp) → IsLawful dp → (k w : ℕ) (two : TwoLayers) → AreWithin dp k w two → AreWithin dp k w (keep_first w two)
 keep-first-within dp laws k w two h =

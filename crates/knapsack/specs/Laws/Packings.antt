@@ -57,7 +57,7 @@ has_copies-other_length items ds other =
       | false ↦ λ _. refl
     ] refl
 
--- a packing of an item and of those behind it
+-- a packing of an item and of those after it
 record PacksFirst (x : Item) (xs : List Item) (rest d : ℕ) (ds : List ℕ) : Type 0 where
   few : d ≤ x.copies
   fits : d * x.weight ≤ rest

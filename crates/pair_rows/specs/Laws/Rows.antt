@@ -27,7 +27,7 @@ length-step row s k d h e =
     let later = length-grown row (drop (suc k) s) d (omega arith) in
     rw cut (omega (arith, length-append (take k s) (pos 0 ∷ grown row (drop (suc k) s) d)))
 
--- behind the decided variable a step leaves what the benefits have grown to
+-- after the decided variable a step leaves what the benefits have grown to
 pub drop-step : (row : List PairValues) (s : List ℤ) (k d : ℕ) → k < length s →
     drop (k + 1) (take k s ++ row_step row (drop k s) d) ≡ grown row (drop (suc k) s) d
 drop-step row s k d h =

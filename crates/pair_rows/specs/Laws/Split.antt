@@ -16,7 +16,7 @@ use Rattle.pair_rows.specs.Program.{cell_part, given_yes, given_no, grown, share
 use Rattle.pair_rows.specs.Laws.Pairs.{length-rows_of, length-row_at, drop-rows}
 use Rattle.pair_rows.specs.Laws.Rows.{words_of-some, length-step, drop-step}
 
--- the lesser of the two sides of a later variable, by what its benefit is behind the decision
+-- the lesser of the two sides of a later variable, by what its benefit is after the decision
 pub record Sides (p : PairValues) (t : ℤ) (d : ℕ) : Type 0 where
   pub if_true : int_min (above_zero t +ℤ given_yes p d) (below_zero t +ℤ given_no p d) +ℤ above_zero (t +ℤ (given_yes p d -ℤ given_no p d)) ≡ above_zero t +ℤ given_yes p d
   pub if_false : int_min (above_zero t +ℤ given_yes p d) (below_zero t +ℤ given_no p d) +ℤ below_zero (t +ℤ (given_yes p d -ℤ given_no p d)) ≡ below_zero t +ℤ given_no p d

@@ -81,7 +81,7 @@ within-grown (p ∷ ps) (t ∷ ts) (l ∷ ls) d h g =
     (is-size _ _ (grown-within p t l d (and_parts _ _ h).0 (size-is t l (and_parts _ _ g).0)))
     (within-grown ps ts ls d (and_parts (pair_fits p) _ h).1 (and_parts (is_within t l) _ g).1)
 
--- what stands behind the first benefit is within the limits behind the first
+-- what stands after the first benefit is within the limits after the first
 pub within-rest : (t : ℤ) (ts ls : List ℤ) → IsTrue (are_within (t ∷ ts) ls) → IsTrue (are_within ts (drop 1 ls))
 within-rest t ts [] h = absurd (grind arith)
 within-rest t ts (l ∷ ls) h = (and_parts (is_within t l) _ h).1

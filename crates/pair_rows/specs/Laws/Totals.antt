@@ -86,7 +86,7 @@ none_negative-raised_limits (p ∷ ps) (l ∷ ls) h g =
     and_from (int_le (pos 0) (l +ℤ pair_most p)) _ (int_le-from (pos 0) (l +ℤ pair_most p) (omega (arith, ints)))
     (none_negative-raised_limits ps ls (and_parts (pair_fits p) _ h).1 (and_parts (int_le (pos 0) l) _ g).1)
 
--- the limits behind the first
+-- the limits after the first
 
 pub sum_of-drop_one : (ls : List ℤ) → IsTrue (none_negative ls) → sum_of (drop 1 ls) ≤ℤ sum_of ls
 sum_of-drop_one [] h = omega (arith, ints)

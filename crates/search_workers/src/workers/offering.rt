@@ -126,7 +126,7 @@ pub fn restrict_one<M: DpModel, D: Disk + Send, G: Gate, R: Wait>(
 }
 
 /// Compiles the relaxed diagram of a subproblem outside the turn, with the reach by what the seat has seen as threshold and its layers
-/// in so many parts, fills `cutset` with its children, as `fill_with` does, and offers the solution that it finds.
+/// in this many parts, fills `cutset` with its children, as `fill_with` does, and offers the solution that it finds.
 ///
 /// # Errors
 ///

@@ -19,7 +19,7 @@ const STOPPED: &str = "stopped journal\nvalue none\nbound 121\n";
 /// What is printed, with status 5, where a search is to go on and no journal has begun.
 const NOT_BEGUN: &str = "journal not-begun\n";
 
-/// The first disk call of the first record, behind those that begin the journal.
+/// The first disk call of the first record, after those that begin the journal.
 const FIRST_RECORD: u64 = 9;
 
 /// The first disk call of the last record, which is the fifth one.
@@ -141,8 +141,8 @@ fn a_changed_byte_is_damage(rt: HostRuntime) {
 }
 
 /// Files in hexadecimal digits, and how the search of each goes on: with another first record, of other versions, with a distance
-/// that is too small and one that is too great, with wrong records behind the head, with a snapshot in a journal of version 1,
-/// with wrong snapshots, and with one behind which the tickets run out.
+/// that is too small and one that is too great, with wrong records after the head, with a snapshot in a journal of version 1,
+/// with wrong snapshots, and with one after which the tickets run out.
 const REFUSED: &[(&str, &str)] = &[
     ("01", NOT_BEGUN),
     (
@@ -283,7 +283,7 @@ fn a_write_of_the_first_record_fails(rt: HostRuntime) {
     }
 }
 
-/// Whether a run over a disk that passes so many calls prints the best solution, and what a crash leaves of its file.
+/// Whether a run over a disk that passes this many calls prints the best solution, and what a crash leaves of its file.
 fn crashed<R: Abort + Threads + Wait + Sync>(
     rt: &R,
     alloc: Global,
@@ -305,7 +305,7 @@ fn goes_on<R: Abort + Threads + Wait + Sync>(rt: &R, alloc: Global, left: &[u8])
     is_best(&told) || says(&told, NOT_BEGUN, 5)
 }
 
-/// Whether a search that is cut off after so many calls prints the best solution exactly where that is before its last record, and goes
+/// Whether a search that is cut off after this many calls prints the best solution exactly where that is before its last record, and goes
 /// on after the crash.
 fn cut_off<R: Abort + Threads + Wait + Sync>(
     rt: &R,
@@ -347,7 +347,7 @@ fn cut_off_again<R: Abort + Threads + Wait + Sync>(
     goes_on(rt, alloc, again.as_slice())
 }
 
-/// Each further crash of a search that was cut off after so many calls.
+/// Each further crash of a search that was cut off after this many calls.
 fn cut_off_twice<R: Abort + Threads + Wait + Sync>(rt: &R, alloc: Global, calls: u64) {
     let (_, left) = crashed(rt, alloc, SEARCH, Vec::new(alloc), calls, b"\x07");
     for more in 0..=ALL_CALLS {

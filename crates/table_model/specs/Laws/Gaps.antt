@@ -9,11 +9,11 @@ use Rattle.dp_model.specs.NumberLaws.{int_le-is}
 use Rattle.dp_model.specs.Numbers.{AtMost, int_same}
 use Rattle.dp_model.specs.Prefixes.{IsPath, IsContinuation, gain_of}
 use Rattle.table_model.specs.Laws.Places.{Passes, holds_each, passes_at}
-use Rattle.table_model.specs.Laws.Shaped.{IsTable, IsBetween, HasStates, HasDecisions, IsLast, some_between, grid_passes, row_passes, states_at, decisions_at, behind_is, last_is}
+use Rattle.table_model.specs.Laws.Shaped.{IsTable, IsBetween, HasStates, HasDecisions, IsLast, some_between, grid_passes, row_passes, states_at, decisions_at, after_is, last_is}
 use Rattle.table_model.specs.Laws.Steps.{IsTransition, Has, has_from, some_from, IsWithin, transition_within, gain_step, path_step, path_from_step}
 use Rattle.table_model.specs.Laws.Tested.{IsTested, tested_at}
 use Rattle.table_model.specs.Program.{number_in, row_of_number, program_of}
-use Rattle.table_model.specs.Table.{LayerTable, Table, layer_at, layer_behind, gap_at, merge_at, rough_at, transition_at}
+use Rattle.table_model.specs.Table.{LayerTable, Table, layer_at, layer_after, gap_at, merge_at, rough_at, transition_at}
 use Rattle.table_model.specs.Tests.{is_enough, matches_by, is_match, is_matched, is_matched_at, is_sound_gap, is_zero, is_own_gap, covers_as, covers_both, bounds_next, bounds_transition, is_bounded, is_within_sum, adds_up_by, first_failure}
 use Rattle.table_model.specs.declared.transition.Transition.{Transition}
 
@@ -25,14 +25,14 @@ record IsMatched (l after : LayerTable) (a : ℕ) (w : Transition) (g : ℤ) : T
   below : decision < l.choices
   to : Transition
   is : transition_at l a decision ≡ Some to
-  behind : ℤ
-  gap : gap_at after to.next w.next ≡ Some behind
-  enough : (w.gain +ℤ behind) ≤ℤ (to.gain +ℤ g)
+  following : ℤ
+  gap : gap_at after to.next w.next ≡ Some following
+  enough : (w.gain +ℤ following) ≤ℤ (to.gain +ℤ g)
 
 enough_by : (l after : LayerTable) (a e : ℕ) (w v : Transition) (g : ℤ) (o : Option ℤ) → e < l.choices → transition_at l a e ≡ Some v → gap_at after v.next w.next ≡ o
     → is_enough w.gain v.gain g o ≡ true → IsMatched l after a w g
 enough_by l after a e w v g None below is gap h = absurd (false≢true h)
-enough_by l after a e w v g (Some q) below is gap h = record { decision = e; below = below; to = v; is = is; behind = q; gap = gap; enough = int_le-is _ _ h }
+enough_by l after a e w v g (Some q) below is gap h = record { decision = e; below = below; to = v; is = is; following = q; gap = gap; enough = int_le-is _ _ h }
 
 match_by : (l after : LayerTable) (a e : ℕ) (w : Transition) (g : ℤ) (o : Option Transition) → e < l.choices → transition_at l a e ≡ o → matches_by after w g o ≡ true → IsMatched l after a w g
 match_by l after a e w g None below is h = absurd (false≢true h)
@@ -48,9 +48,9 @@ matched l after a s d g w h gap below is =
     match_by l after a p.place w g (transition_at l a p.place) p.below refl p.passes
 
 module _ (t : Table) (shape : IsTable t) (tests : first_failure t.layers ≡ None) where
-  -- the states of the layer behind a decision are some
-  some_behind : (k : ℕ) → k < length t.layers - 1 → 1 ≤ (layer_at t.layers (k + 1)).states
-  some_behind k below = (states_at t.layers (k + 1) shape.layers (omega arith)).some
+  -- the states of the layer after a decision are some
+  some_after : (k : ℕ) → k < length t.layers - 1 → 1 ≤ (layer_at t.layers (k + 1)).states
+  some_after k below = (states_at t.layers (k + 1) shape.layers (omega arith)).some
 
   pub gap_between : (k a s : ℕ) (g : ℤ) → k < length t.layers → a < (layer_at t.layers k).states → s < (layer_at t.layers k).states → gap_at (layer_at t.layers k) a s ≡ Some g
       → IsBetween (pos 0) (pos (2 ^ 50)) g
@@ -72,14 +72,14 @@ module _ (t : Table) (shape : IsTable t) (tests : first_failure t.layers ≡ Non
       let w = has_from (transition_at l (number_in s) d) path.0.test in
       let some = (states_at t.layers (k + 1) shape.layers below).some in
       let decisions = decisions_at t.layers k shape.layers below in
-      let tested : IsTested l (layer_behind t.layers k) = tested_at t.layers k tests (omega arith) in
+      let tested : IsTested l (layer_after t.layers k) = tested_at t.layers k tests (omega arith) in
       let sound : is_sound_gap l after (number_in a) (number_in s) (gap_at l (number_in a) (number_in s)) ≡ true =
-      subst (λ (b : LayerTable). is_sound_gap l b (number_in a) (number_in s) (gap_at l (number_in a) (number_in s)) ≡ true) (behind_is t.layers k below)
+      subst (λ (b : LayerTable). is_sound_gap l b (number_in a) (number_in s) (gap_at l (number_in a) (number_in s)) ≡ true) (after_is t.layers k below)
       (tested.sound (number_in a) (number_in s) one two) in
       let m = matched l after (number_in a) (number_in s) d g w.by sound gap path.0.choice w.is in
       let from = transition_within after.states l (number_in s) d w.by some decisions two path.0.choice w.is in
       let to = transition_within after.states l (number_in a) m.decision m.to some decisions one m.below m.is in
-      let rest = sound_from (k + 1) (row_of_number m.to.next) (row_of_number w.by.next) m.behind c to.next from.next m.gap (path_step t k s d c w.by w.is path.1) (omega (arith, whole)) in
+      let rest = sound_from (k + 1) (row_of_number m.to.next) (row_of_number w.by.next) m.following c to.next from.next m.gap (path_step t k s d c w.by w.is path.1) (omega (arith, whole)) in
       let gained = gain_step t k s d c w.by w.is in
       let gains = gain_step t k a m.decision rest.by m.to m.is in
       let enough = rest.enough in
@@ -164,10 +164,10 @@ module _ (t : Table) (shape : IsTable t) (tests : first_failure t.layers ≡ Non
       let choice = path.0.choice in
       let h = (tested_at t.layers k tests (omega arith)).bounds (number_in s) d one (omega (arith, choice)) in
       let few : nat_eq l.choices 0 ≡ false = ne_eqb l.choices 0 (λ e. omega (arith, choice, e)) in
-      let inner : bounds_transition l (layer_behind t.layers k) (number_in s) (transition_at l (number_in s) d) ≡ true = sym (cond-false _ _ _ few) ∙ h in
+      let inner : bounds_transition l (layer_after t.layers k) (number_in s) (transition_at l (number_in s) d) ≡ true = sym (cond-false _ _ _ few) ∙ h in
       let next : bounds_transition l after (number_in s) (Some w.by) ≡ true =
-      subst (λ (b : LayerTable). bounds_transition l b (number_in s) (Some w.by) ≡ true) (behind_is t.layers k below)
-      (subst (λ (o : Option Transition). bounds_transition l (layer_behind t.layers k) (number_in s) o ≡ true) w.is inner) in
+      subst (λ (b : LayerTable). bounds_transition l b (number_in s) (Some w.by) ≡ true) (after_is t.layers k below)
+      (subst (λ (o : Option Transition). bounds_transition l (layer_after t.layers k) (number_in s) o ≡ true) w.is inner) in
       let rest = bounds_from (k + 1) (row_of_number w.by.next) c from.next (path_step t k s d c w.by w.is path.1) (omega (arith, whole)) in
       subst (λ (z : ℤ). AtMost z (rough_at l (number_in s))) (sym (gain_step t k s d c w.by w.is))
       (bounded_next (rough_at l (number_in s)) (rough_at after w.by.next) w.by.gain _ next rest)

@@ -7,7 +7,7 @@ use Rattle.std.proofs.lemmas.List.{get_or_default, get_or_past}
 use Rattle.std.proofs.lemmas.List.Elements.{All-get_or}
 use Rattle.std.proofs.lemmas.List.Sums.{AllPass-from_list_all}
 use Rattle.dp_model.specs.NumberLaws.{int_le-is}
-use Rattle.table_model.specs.Table.{LayerTable, Table, cell_at, layer_at, layer_behind, no_layer, gap_at, merge_at, rough_at, states_of_first}
+use Rattle.table_model.specs.Table.{LayerTable, Table, cell_at, layer_at, layer_after, no_layer, gap_at, merge_at, rough_at, states_of_first}
 use Rattle.table_model.specs.Shape.{is_between, is_small, is_cell_between, is_state_between, is_next_between, is_row, is_grid, is_count, are_states, are_decisions, is_last, is_layer, are_layers}
 
 -- ---- cells
@@ -99,7 +99,7 @@ layer_from [] k h below = absurd (omega arith)
 layer_from (l ∷ ls) zero h below = subst (λ (n : ℕ). is_layer n l ≡ true) (first_states ls) (and_parts _ _ h).0
 layer_from (l ∷ ls) (suc k) h below = layer_from ls k (and_parts _ _ h).1 (omega arith)
 
--- each layer is within the limits, by the states of the one behind it
+-- each layer is within the limits, by the states of the one after it
 pub layer_passes : (ls : List LayerTable) (k : ℕ) → are_layers ls ≡ true → k < length ls → is_layer (layer_at ls (k + 1)).states (layer_at ls k) ≡ true
 layer_passes ls k h below = let same : suc k ≡ k + 1 = omega arith in subst (λ (n : ℕ). is_layer (layer_at ls n).states (layer_at ls k) ≡ true) same (layer_from ls k h below)
 
@@ -115,9 +115,9 @@ decisions_at ls k h below =
     ∙ (and_parts _ _ (layer_passes ls k h (omega arith))).1
     )
 
--- the layer behind a layer that is not the last
-pub behind_is : (ls : List LayerTable) (k : ℕ) → k + 1 < length ls → layer_behind ls k ≡ layer_at ls (k + 1)
-behind_is ls k below = get_or_default ls (k + 1) _ _ below
+-- the layer after a layer that is not the last
+pub after_is : (ls : List LayerTable) (k : ℕ) → k + 1 < length ls → layer_after ls k ≡ layer_at ls (k + 1)
+after_is ls k below = get_or_default ls (k + 1) _ _ below
 
 pub record IsLast (l : LayerTable) : Type 0 where
   pub choices : l.choices ≡ 0

@@ -1,7 +1,7 @@
 -- What it means that no test of a table fails.
 use Rattle.std.proofs.Common.{◌≡◌, ℕ, ◌+◌, ◌<◌, max, true, List, length, Option, None, arith}
 use Rattle.table_model.specs.Laws.Places.{none_of_two, none_each, passes_where_none}
-use Rattle.table_model.specs.Table.{LayerTable, layer_at, layer_behind}
+use Rattle.table_model.specs.Table.{LayerTable, layer_at, layer_after}
 use Rattle.table_model.specs.Tests.{holds, seconds, failure_at, failure_from, failure_of, layer_failure, failure_in, first_failure}
 use Rattle.table_refusal.specs.declared.failure.Failure.{Failure}
 use Rattle.table_refusal.specs.declared.failure.Law.{Law}
@@ -36,5 +36,5 @@ layer_tested l after k h =
       adds_up = none_fails l after k GapsAddUp four.1;
     }
 
-pub tested_at : (layers : List LayerTable) (k : ℕ) → first_failure layers ≡ None → k < length layers → IsTested (layer_at layers k) (layer_behind layers k)
+pub tested_at : (layers : List LayerTable) (k : ℕ) → first_failure layers ≡ None → k < length layers → IsTested (layer_at layers k) (layer_after layers k)
 tested_at layers k h below = layer_tested _ _ k (none_each (failure_in layers) (length layers) k h below)

@@ -1,4 +1,4 @@
--- One step of a tour: the tests that allow it, the way and the state behind it.
+-- One step of a tour: the tests that allow it, the way and the state after it.
 use Rattle.std.proofs.Common.{◌≡◌, ◌≢◌, ℕ, zero, suc, ◌+◌, ◌<◌, ◌≤◌, Bool, true, false, cond, not, ◌&&◌, ◌||◌, nat_eq, nat_lt, nat_le, Option, Some, None, refl, sym, ap, ap₂, ◌∙◌, arith, inl, inr, ◌⊎◌, eq-eqb}
 use Rattle.std.specs.Prelude.{is_some, unwrap_or}
 use Rattle.std.proofs.lemmas.Bool.{false≢true, eqb-true, and_parts, and_from, or_left, or_right, or_cases, not-true, cases_Bool, ne_eqb, leb-true, le-leb, lt-ltb, le-ltb, eqb-false}
@@ -155,7 +155,7 @@ goes_home i k t d l = ap (λ b. cond b (may_visit i t d) (may_return i t d)) (le
 pub near-le-arrival : (i : Instance) (t : TourState) (d : ℕ) → is_some (leg i t d) ≡ true → t.pending.time + near i d ≤ arrival i t d
 near-le-arrival i t d e = let least = near-le-leg i t d e in omega (arith, least)
 
--- ---- the state behind a step
+-- ---- the state after a step
 
 pub moved-bounded : (i : Instance) (t : TourState) (d : ℕ) → d < i.nodes → IsWithinNodes i.nodes t → IsWithinNodes i.nodes (moved i t d)
 unfolding moved

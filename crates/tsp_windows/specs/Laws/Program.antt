@@ -47,7 +47,7 @@ state_row-gives n s e =
       sound = sound-gives n (shown (words_for n) s) rest.1;
       bounded = record { positions = positions.within; pending = row_laws.bounded n (pending_of (words_for n) s) pending };
       early = pending.early;
-      cells = (let behind = length-drop (words_for n) s in omega (arith, pending.cells, behind));
+      cells = (let following = length-drop (words_for n) s in omega (arith, pending.cells, following));
     }
 
 pub state_row-from : (n : ℕ) (t : TourState) → IsWithinNodes n t → IsSoundState n t → IsApart t.pending → t.pending.time ≤ latest → is_state_row n (row_for (words_for n) t) ≡ true
@@ -251,9 +251,9 @@ cell_small n s row k l =
     elim (cases_lt k (words_for n)) [
       | inl a ↦ subst IsSmallNumber (get_or-take (words_for n) s k (pos 0) a) (word_small (get_or (positions_of (words_for n) s) k (pos 0)) (row.positions.cells k))
       | inr a ↦ (let at : words_for n + (k - words_for n) ≡ k = omega arith in
-          let behind = length-drop (words_for n) s in
+          let following = length-drop (words_for n) s in
           subst IsSmallNumber (get_or-drop (words_for n) s (k - words_for n) (pos 0) ∙ ap (λ j. get_or s j (pos 0)) at)
-          (row_laws.cell_small n (pending_of (words_for n) s) row.pending (k - words_for n) (omega (arith, behind, l))))
+          (row_laws.cell_small n (pending_of (words_for n) s) row.pending (k - words_for n) (omega (arith, following, l))))
     ]
 
 gap_size : (a b : ℕ) (g : ℤ) → a ≤ b → b ≤ 1000000000000 → g ≡ pos b -ℤ pos a → (pos 0 ≤ℤ g) × IsSmallNumber g

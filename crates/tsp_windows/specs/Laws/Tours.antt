@@ -271,16 +271,16 @@ made-last i k here t d last small a l single h e =
       last_is = time-moved-is i t d ∙ ap (λ x. max x (opening i d)) way ∙ last_is;
     }
 
-home-behind : (d : ℕ) (ds : List ℕ) → ends_at_home ds ≡ true → list_any (λ u. nat_eq u d) ds ≡ false → d ≢ 0
-home-behind d [] e n s = false≢true e
-home-behind d (v ∷ []) e n s = false≢true (sym n ∙ or_left (nat_eq v d) false (eq-eqb v d (eqb-true v 0 e ∙ sym s)))
-home-behind d (v ∷ u ∷ vs) e n s = home-behind d (u ∷ vs) e (second (nat_eq v d) (list_any (λ u. nat_eq u d) (u ∷ vs)) n) s
+home-following : (d : ℕ) (ds : List ℕ) → ends_at_home ds ≡ true → list_any (λ u. nat_eq u d) ds ≡ false → d ≢ 0
+home-following d [] e n s = false≢true e
+home-following d (v ∷ []) e n s = false≢true (sym n ∙ or_left (nat_eq v d) false (eq-eqb v d (eqb-true v 0 e ∙ sym s)))
+home-following d (v ∷ u ∷ vs) e n s = home-following d (u ∷ vs) e (second (nat_eq v d) (list_any (λ u. nat_eq u d) (u ∷ vs)) n) s
   where
     second : (a b : Bool) → (a || b) ≡ false → b ≡ false
     second true b e = absurd (false≢true (sym e))
     second false b e = e
 
--- the rest of the list is one of the nodes that must be visited behind it
+-- the rest of the list is one of the nodes that must be visited after it
 lists-rest : (i : Instance) (t : TourState) (d f : ℕ) (ds : List ℕ) → Lists i.nodes t.pending.must (d ∷ f ∷ ds) → d < i.nodes → t.pending.must d ≡ true → Lists i.nodes (moved i t d).pending.must (f ∷ ds)
 lists-rest i t d f ds h l must =
     let different = not-true (list_any (λ u. nat_eq u d) (f ∷ ds)) (and_parts (not (list_any (λ u. nat_eq u d) (f ∷ ds))) (are_different (f ∷ ds)) h.different).0 in
@@ -299,7 +299,7 @@ is_made i k here t (d ∷ []) last small a l single h e = made-last i k here t d
 is_made i k here t (d ∷ f ∷ ds) last small a l single h e =
     let choice = ltb-true d i.nodes (and_parts (nat_lt d i.nodes) (list_all (λ v. nat_lt v i.nodes) (f ∷ ds)) h.inside).0 in
     let different = not-true (list_any (λ u. nat_eq u d) (f ∷ ds)) (and_parts (not (list_any (λ u. nat_eq u d) (f ∷ ds))) (are_different (f ∷ ds)) h.different).0 in
-    let away = home-behind d (f ∷ ds) h.home different in
+    let away = home-following d (f ∷ ds) h.home different in
     let must = only (t.pending.must d) (nat_eq d 0) (ne_eqb d 0 away) (and_parts (t.pending.must d || nat_eq d 0) (list_all (λ v. t.pending.must v || nat_eq v 0) (f ∷ ds)) h.wanted).0 in
     let apart_ = far t here d a.left must in
     let way = arrival-at i here d t a apart_ in

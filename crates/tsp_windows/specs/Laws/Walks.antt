@@ -28,7 +28,7 @@ abbrev pub IsTour : Instance → ℕ → TourState → List ℕ → Type 0
 IsTour i k t [] = Unit {0}
 IsTour i k t (d ∷ ds) = IsGone i k t d × IsTour i (k + 1) (moved i t d) ds
 
--- the time behind them
+-- the time after them
 abbrev pub last_time : Instance → TourState → List ℕ → ℕ
 last_time i t [] = t.pending.time
 last_time i t (d ∷ ds) = last_time i (moved i t d) ds

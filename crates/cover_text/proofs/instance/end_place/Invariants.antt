@@ -1,11 +1,11 @@
 use Rattle.std.proofs.Common.{◌≡◌, length}
 use Rattle.tokens.specs.Text.{IsCountable}
-use Rattle.cover_text.specs.Instances.{place_behind, end_place}
+use Rattle.cover_text.specs.Instances.{place_following, end_place}
 use Rattle.cover_text.proofs.instance.end_place.Given as goal
 
 abbrev pub invariant-loop-rest : goal.invariant-loop-rest
 invariant-loop-rest l = record {
-  behind : place_behind l.place l.rest ≡ end_place l.bytes;
+  following : place_following l.place l.rest ≡ end_place l.bytes;
   countable : IsCountable l.place l.rest;
 }
 

@@ -20,7 +20,7 @@ pub returns-in_err-write_synced-clause-any_moment : goal.returns-in_err-write_sy
 returns-in_err-write_synced-clause-any_moment g c tells =
     let f : Frame = record { kind = c.args.kind; body = c.args.body.now } in
     let fits : Fits f = record { kind = omega arith; length_fits = c.requires.length } in
-    appending.behind g.D.Disk.seen g.D.Disk.may_leave g.D.Disk.moment g.D.Disk.left_since c.args.disk.now c.args.tail.now f fits (c.requires.settled tells) c.write_synced.new.disk _ (c.write_synced.ensures.any_moment tells)
+    appending.following g.D.Disk.seen g.D.Disk.may_leave g.D.Disk.moment g.D.Disk.left_since c.args.disk.now c.args.tail.now f fits (c.requires.settled tells) c.write_synced.new.disk _ (c.write_synced.ensures.any_moment tells)
 
 pub returns-in_err-write_synced-2-clause-any_moment : goal.returns-in_err-write_synced-2-clause-any_moment
 returns-in_err-write_synced-2-clause-any_moment g c tells =

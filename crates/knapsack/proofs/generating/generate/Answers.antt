@@ -9,4 +9,4 @@ pub loop-preserved : goal.loop-preserved
 loop-preserved c =
     let item = c.draw_item-item.ensures in
     one_more c.args.seed c.loop.counter c.loop.draws c.draw_item-item.new.draws c.loop.items.items c.push.new.self.items c.loop.weight
-    (c.loop.weight + c.from.result * c.from-in-loop.result) c.draw_item-item.result c.loop.invariant item.item item.behind item.small item.light (search rules) (search rules)
+    (c.loop.weight + c.from.result * c.from-in-loop.result) c.draw_item-item.result c.loop.invariant item.item item.following item.small item.light (search rules) (search rules)

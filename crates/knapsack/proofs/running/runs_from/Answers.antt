@@ -38,11 +38,11 @@ begun : (order : List Placed) (layer i weight profit heavier worth : ℕ) (runs 
     → more ≡ runs ++ record { weight = weight; profit = profit; item = (get_or order i none).item } ∷ []
     → heavier ≡ (get_or order i none).item.copies * (get_or order i none).item.weight → worth ≡ (get_or order i none).item.copies * (get_or order i none).item.profit
     → runs ++ runs_of weight profit (kept_from layer (drop i order)) ≡ whole → more ++ runs_of (weight + heavier) (profit + worth) (kept_from layer (drop (i + 1) order)) ≡ whole
-begun order layer i weight profit heavier worth runs more whole h behind pushed heavy dear so_far =
+begun order layer i weight profit heavier worth runs more whole h following pushed heavy dear so_far =
     let p : Placed = get_or order i none in
     let rest : List Item = kept_from layer (drop (i + 1) order) in
     let run : Run = record { weight = weight; profit = profit; item = p.item } in
-    let cut : kept_from layer (drop i order) ≡ p.item ∷ rest = ap (kept_from layer) (drop_more order i none h) ∙ ap (λ b. cond b rest (p.item ∷ rest)) (le-ltb p.number layer behind) in
+    let cut : kept_from layer (drop i order) ≡ p.item ∷ rest = ap (kept_from layer) (drop_more order i none h) ∙ ap (λ b. cond b rest (p.item ∷ rest)) (le-ltb p.number layer following) in
     rw (pushed, heavy, dear) (append_assoc runs (run ∷ []) (runs_of (weight + p.item.copies * p.item.weight) (profit + p.item.copies * p.item.profit) rest) ∙ rw cut at so_far)
 
 ended : (order : List Placed) (layer i weight profit : ℕ) (runs more whole : List Run) → length order ≤ i → more ≡ runs ++ record { weight = weight; profit = profit; item = no_item } ∷ []

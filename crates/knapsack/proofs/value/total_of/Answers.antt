@@ -26,7 +26,7 @@ light items i taken all h few =
       profit = mul-le taken (get_or items i no_item).profit 1000 1000000000 at_most small.profit;
     }
 
--- the test of one item, and then of those behind it
+-- the test of one item, and then of those after it
 tested : (items : List Item) (ds : List ℕ) (i : ℕ) (within : Bool) → i < length ds → length ds ≡ length items → nat_le (get_or ds i 0) (get_or items i no_item).copies ≡ within
     → has_copies items ds ≡ has_copies (drop i items) (drop i ds) → has_copies items ds ≡ (within && has_copies (drop (i + 1) items) (drop (i + 1) ds))
 tested items ds i within h e test so_far =

@@ -27,12 +27,12 @@ members-init g c =
     let new = c.take_row-spot.new.region in
     let put = c.take_row-spot.ensures in
     let front = exchange-put a.region.now new spot put.0 put.2 put.1 places c.requires.live in
-    let behind = exchange-moved a.region.now new places (spot ∷ places) (places ++ spot ∷ []) (IsPermutation-sym (places ++ spot ∷ []) (spot ∷ places) (IsPermutation-to_front places spot)) front in
+    let following = exchange-moved a.region.now new places (spot ∷ places) (places ++ spot ∷ []) (IsPermutation-sym (places ++ spot ∷ []) (spot ∷ places) (IsPermutation-to_front places spot)) front in
     record {
       extended = subst (λ l. AreExtended dp a.k 0 a.region.now live a.members.now (way_row new l) l t.folds.items t.heads.items t.next.items) (sym empty.ways)
           (subst (λ l. AreExtended dp a.k 0 a.region.now live a.members.now (way_row new []) [] t.folds.items l t.next.items) (sym empty.heads)
           (members-start dp a.k a.region.now live a.members.now (way_row new []) t.folds.items t.next.items (length t.heads.items) empty.power));
-      exchanged = subst (λ l. HasExchanged a.region.now places new (places ++ spot ∷ rows_of l)) (sym empty.ways) behind;
+      exchanged = subst (λ l. HasExchanged a.region.now places new (places ++ spot ∷ rows_of l)) (sym empty.ways) following;
       same = put-same a.region.now new spot put.0 put.2 put.1 places c.requires.live.live;
       live = c.clear.ensures.live;
       room = c.clear.ensures.room;

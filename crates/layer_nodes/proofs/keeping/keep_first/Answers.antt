@@ -5,7 +5,7 @@ use Rattle.layer_nodes.specs.Holding.{AreHeld, places_of}
 use Rattle.layer_nodes.specs.Nodes.{LayerView, shown_below}
 use Rattle.layer_nodes.specs.Steps.{AreAmong}
 use Rattle.layer_nodes.specs.Stored.{node_view_by, rows_in}
-use Rattle.layer_nodes.proofs.Exchanges.{behind-live, first-exchanged, first-rows}
+use Rattle.layer_nodes.proofs.Exchanges.{following-live, first-exchanged, first-rows}
 use Rattle.layer_nodes.proofs.Holding.{held-rows, rows-held}
 use Rattle.layer_nodes.proofs.Shown.{seen, below-seen, places-seen}
 use Rattle.layer_nodes.proofs.Stored.{among-map, among-take, among-self}
@@ -17,7 +17,7 @@ give_rows-requires c =
     let region = c.args.region.now in
     let places = sym (ap (λ (l : LayerView). places_of l.nodes) c.next.view_is) ∙ places-seen (held_row s.held.value) s.arcs.items s.nodes.items in
     subst (λ l. AreLive region (rows_in l)) (sym (c.nodes_from.ensures ∙ ap (drop c.args.width) c.as_slice.ensures.value))
-    (behind-live region region s.nodes.items c.args.width (subst (AreLive region) places c.requires.live))
+    (following-live region region s.nodes.items c.args.width (subst (AreLive region) places c.requires.live))
 
 pub returns-clause-next : goal.returns-clause-next
 returns-clause-next c = λ paths.

@@ -9,7 +9,7 @@ use Rattle.layer_nodes.specs.declared.node.Node.{Node}
 use Rattle.layer_nodes.specs.Leading.{IsNodeIn, bare}
 use Rattle.layer_nodes.specs.Merging.{lifted}
 use Rattle.layer_nodes.specs.Stored.{rows_in}
-use Rattle.layer_nodes.proofs.Exchanges.{behind-live}
+use Rattle.layer_nodes.proofs.Exchanges.{following-live}
 use Rattle.layer_nodes.proofs.Given.{rows-found}
 use Rattle.layer_nodes.proofs.Merged.{has-merged}
 use Rattle.layer_nodes.proofs.Stored.{each-drop}
@@ -39,7 +39,7 @@ give_rows-requires g c =
     let a = c.args in
     let first = a.width - 1 in
     let last : c.nodes_from-last.result.now ≡ drop first a.nodes.now.items = c.nodes_from-last.ensures ∙ ap (drop first) c.as_slice.ensures.value in
-    subst (λ l. AreLive a.region.now (rows_in l)) (sym last) (behind-live a.region.now a.region.now a.nodes.now.items first c.requires.live)
+    subst (λ l. AreLive a.region.now (rows_in l)) (sym last) (following-live a.region.now a.region.now a.nodes.now.items first c.requires.live)
 
 pub put_row-place-requires-clause-spare : goal.put_row-place-requires-clause-spare
 put_row-place-requires-clause-spare g c =

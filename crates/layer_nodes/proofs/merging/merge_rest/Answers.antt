@@ -71,7 +71,7 @@ returns-clause-above g c = λ paths below.
     let old = a.region.now in
     let own = held_row s.held.value in
     let have = held-rows old own s.arcs.items s.nodes.items (subst (λ (l : LayerView). AreHeld old l.nodes) (sym c.next.view_is) c.requires.held) in
-    c.redirect_layer_behind.ensures.nodes paths
+    c.redirect_layer_after.ensures.nodes paths
     ∙ ap (λ x. with_redirected x (shown_layer paths a.above.now.nodes)) (ap (λ l. staying (a.width - 1) ++ l) c.as_slice.ensures.value
     ∙ (merged-targets dp a.k a.width old s.nodes.items c.merge_nodes.new.region c.merge_nodes.new.nodes.items c.merge_nodes.new.redirects.items s.arcs.items c.merge_nodes.ensures.merged below
     ∙ ap (merge_redirects dp a.k a.width) (ap (shown_below below) (views-held old own s.arcs.items s.nodes.items have) ∙ ap (λ (l : LayerView). shown_below below l.nodes) c.next.view_is)))

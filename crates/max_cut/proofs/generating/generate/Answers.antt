@@ -9,7 +9,7 @@ pub loop-preserved : goal.loop-preserved
 loop-preserved c =
     let weight = c.draw_weight.ensures in
     one_more c.args.seed c.loop.counter c.loop.draws c.draw_weight.new.draws c.loop.weights.items c.push.new.self.items c.draw_weight.result c.loop.invariant
-    weight.weight weight.behind weight.small (search rules)
+    weight.weight weight.following weight.small (search rules)
 
 pub prepared-requires : goal.prepared-requires
 prepared-requires c = record { few = c.requires.size; whole = omega arith; small = c.loop.invariant.small }

@@ -9,7 +9,7 @@ pub loop-preserved : goal.loop-preserved
 loop-preserved c =
     let clause = c.draw_clause.ensures in
     one_more c.args.n c.args.seed c.loop.counter c.loop.draws c.draw_clause.new.draws (gathered_in c.loop.draft) (gathered_in c.draw_clause.new.draft) c.loop.invariant
-    clause.clause clause.behind clause.drawing clause.count
+    clause.clause clause.following clause.drawing clause.count
 
 pub draw_clause-requires-clause-drawing : goal.draw_clause-requires-clause-drawing
 draw_clause-requires-clause-drawing c = c.loop.invariant.drawing

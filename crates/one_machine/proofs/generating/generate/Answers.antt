@@ -10,7 +10,7 @@ loop-init c = none_drawn c.args.n c.args.seed c.from_seed-draws.result c.in_ok-j
 pub loop-preserved : goal.loop-preserved
 loop-preserved c =
     let job = c.draw_job-job.ensures in
-    one_more c.args.n c.args.seed c.loop.counter c.loop.draws c.draw_job-job.new.draws c.loop.jobs.items c.push.new.self.items c.draw_job-job.result c.loop.invariant job.job job.behind job.small (search rules)
+    one_more c.args.n c.args.seed c.loop.counter c.loop.draws c.draw_job-job.new.draws c.loop.jobs.items c.push.new.self.items c.draw_job-job.result c.loop.invariant job.job job.following job.small (search rules)
 
 pub new-requires : goal.new-requires
 unfolding is_small

@@ -12,6 +12,6 @@ limits_in-requires c =
     let is = c.as_slice.ensures.value ∙ c.loop-k.invariant in
     omega (arith, ap length is, length-limits_through c.args.units.now c.args.pairs.now c.loop-k.k)
 
-pub limits_behind-requires-clause-before : goal.limits_behind-requires-clause-before
-limits_behind-requires-clause-before c =
+pub limits_after-requires-clause-before : goal.limits_after-requires-clause-before
+limits_after-requires-clause-before c =
     limits-at c.args.units.now c.args.pairs.now c.loop-k.k c.loop-k.k c.as_slice.result.now c.limits_in.result.now (c.as_slice.ensures.value ∙ c.loop-k.invariant) (omega arith) c.limits_in.ensures

@@ -9,4 +9,4 @@ pub loop-preserved : goal.loop-preserved
 loop-preserved c =
     let line = c.draw_line.ensures in
     one_more c.args.n c.args.seed c.loop.counter c.loop.draws c.draw_line.new.draws c.loop.lines.items c.push.new.self.items c.draw_line.result c.loop.invariant
-    line.line line.behind line.kept (search rules)
+    line.line line.following line.kept (search rules)

@@ -1,5 +1,5 @@
 use Rattle.std.proofs.Common.{◌≢◌, ◌<◌, ◌∙◌, sym, rules, arith, get_or}
-use Rattle.tokens.proofs.Scanning.{minus_number, behind_minus, plain_number}
+use Rattle.tokens.proofs.Scanning.{minus_number, after_minus, plain_number}
 use Rattle.tokens.proofs.scan.leading_number.Goals as goal
 
 pub returns-in-45-clause-value : goal.returns-in-45-clause-value
@@ -7,9 +7,9 @@ returns-in-45-clause-value c =
     let same = minus_number c.args.least c.args.greatest c.args.place.now c.args.bytes.now c.in-45.len_at_least (cc) in
     search rules
 
-pub returns-in-45-clause-behind : goal.returns-in-45-clause-behind
-returns-in-45-clause-behind c =
-    rw (behind_minus c.args.bytes.now c.in-45.len_at_least (cc)) c.negative_within.ensures.behind
+pub returns-in-45-clause-following : goal.returns-in-45-clause-following
+returns-in-45-clause-following c =
+    rw (after_minus c.args.bytes.now c.in-45.len_at_least (cc)) c.negative_within.ensures.following
 
 pub returns-in-len1-up-3-clause-value : goal.returns-in-len1-up-3-clause-value
 returns-in-len1-up-3-clause-value c =

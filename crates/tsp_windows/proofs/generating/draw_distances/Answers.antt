@@ -9,4 +9,4 @@ pub distances-preserved : goal.distances-preserved
 distances-preserved c =
     let distance = c.draw_distance.ensures in
     one_more c.args.nodes c.args.seed c.distances.place c.distances.draws c.draw_distance.new.draws c.draw_distance.result c.distances.distances.items c.push.new.self.items
-    c.distances.invariant distance.distance distance.behind distance.short (search rules)
+    c.distances.invariant distance.distance distance.following distance.short (search rules)

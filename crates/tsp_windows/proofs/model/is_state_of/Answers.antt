@@ -8,8 +8,8 @@ use Rattle.tsp_windows.proofs.model.is_state_of.Goals as goal
 
 pub is_row-row-requires-clause-cells : goal.is_row-row-requires-clause-cells
 is_row-row-requires-clause-cells c =
-    let behind = length-drop (words_for c.args.nodes) c.args.s.now in
-    ap length (rest_of (words_for c.args.nodes) c.words_for-words.result c.args.s.now c.words_for-words.ensures) ∙ omega (arith, behind, c.requires.cells)
+    let following = length-drop (words_for c.args.nodes) c.args.s.now in
+    ap length (rest_of (words_for c.args.nodes) c.words_for-words.result c.args.s.now c.words_for-words.ensures) ∙ omega (arith, following, c.requires.cells)
 
 pub is_sound-requires-clause-positions_cells : goal.is_sound-requires-clause-positions_cells
 is_sound-requires-clause-positions_cells c = (is_set-gives c.args.nodes _ (sym c.is_set-set.ensures ∙ c.if-not-set.false)).cells

@@ -4,7 +4,7 @@ use Rattle.cover_text.specs.Grammar.{Fails}
 use Rattle.cover_text.specs.Instances.{end_place}
 use Rattle.cover_text.specs.Tested.{tested_sections}
 use Rattle.cover_text.specs.Texts.{opened_in}
-use Rattle.cover_text.proofs.InTurn.{behind_tested, moved-fails}
+use Rattle.cover_text.proofs.InTurn.{after_tested, moved-fails}
 use Rattle.cover_text.proofs.cover_text.OpenCover.check.Goals as goal
 
 pub returns-in-Err : goal.returns-in-Err
@@ -14,7 +14,7 @@ returns-in-Err g c =
     let least = c.requires.distance.least in
     let most = c.requires.distance.most in
     let fits : FitsSigned w64 o.within = omega (arith, ints) in
-    let within = subst (λ w. Fails c.in-Err.fault (tested_sections dp o.best w c.as_slice-assignment.result.now o.behind)) (to_z-of_z w64 o.within fits) c.in-Err.ensures in
-    let fails = subst (λ x. Fails c.in-Err.fault (tested_sections dp o.best o.within x o.behind)) c.as_slice-assignment.ensures.value within in
-    rw (c.placed.ensures, behind_tested dp o)
-    (moved-fails (end_place o.before) c.in-Err.fault (tested_sections dp o.best o.within o.assignment o.behind) fails)
+    let within = subst (λ w. Fails c.in-Err.fault (tested_sections dp o.best w c.as_slice-assignment.result.now o.following)) (to_z-of_z w64 o.within fits) c.in-Err.ensures in
+    let fails = subst (λ x. Fails c.in-Err.fault (tested_sections dp o.best o.within x o.following)) c.as_slice-assignment.ensures.value within in
+    rw (c.placed.ensures, after_tested dp o)
+    (moved-fails (end_place o.before) c.in-Err.fault (tested_sections dp o.best o.within o.assignment o.following) fails)

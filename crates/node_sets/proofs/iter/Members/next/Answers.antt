@@ -1,5 +1,5 @@
 use Rattle.std.proofs.Common.{arith}
-use Rattle.node_sets.proofs.Comings.{next_in_rest, next_small, next_from, rest_behind}
+use Rattle.node_sets.proofs.Comings.{next_in_rest, next_small, next_from, rest_following}
 use Rattle.node_sets.proofs.iter.Members.next.Goals as goal
 
 pub overflow_mul-member : goal.overflow_mul-member
@@ -21,7 +21,7 @@ overflow_add-self c =
     record { fits = omega (arith, small, c.in_ok-spot.ensures.rest.short) }
 
 pub invariant_of-self : goal.invariant_of-self
-invariant_of-self c = rest_behind _ c.in_ok-spot.spot.word c.in_ok-spot.spot.from _ c.in_ok-spot.ensures.rest c.in_ok-spot.ensures.some (omega arith)
+invariant_of-self c = rest_following _ c.in_ok-spot.spot.word c.in_ok-spot.spot.from _ c.in_ok-spot.ensures.rest c.in_ok-spot.ensures.some (omega arith)
 
 pub returns-clause-some : goal.returns-clause-some
 returns-clause-some c =

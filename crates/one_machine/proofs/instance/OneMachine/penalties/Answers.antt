@@ -8,7 +8,7 @@ use Rattle.one_machine.specs.OwnWords.{penalty}
 use Rattle.one_machine.specs.Laws.Limits.{IsSmallInstance, is_small-is, penalty-most}
 use Rattle.one_machine.proofs.instance.OneMachine.penalties.Goals as goal
 
--- what so many first members cost
+-- what this many first members cost
 most : (jobs : List Job) (members : List ℤ) (from time : ℕ) → IsSmallInstance jobs → time ≤ 10000000 → sum_below from (has members) (penalty jobs time) ≤ from * 1010000000000
 most jobs members from time small early = sum_below-le from (has members) (penalty jobs time) 1010000000000 (λ v l. penalty-most jobs time v small early)
 

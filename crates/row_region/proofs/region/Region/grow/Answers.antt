@@ -4,7 +4,7 @@ use Rattle.row_region.proofs.Chains.{longer_chained, longer_slots}
 use Rattle.std.proofs.lemmas.List.{take_all, replicate-append-replicate}
 use Rattle.row_region.proofs.region.Region.grow.Goals as goal
 
--- the cells with more behind them
+-- the cells with more after them
 resized : (cells new : List ℤ) (words count rows size len : ℕ) → length cells ≡ count * words → len ≡ length cells → size ≡ (count + rows) * words → new ≡ take size cells ++ replicate (size - len) (pos 0) → new ≡ cells ++ replicate (size - len) (pos 0)
 resized cells new words count rows size len whole same is e =
     let h : count * words ≤ (count + rows) * words = mul-le-mul_right words (omega arith) in

@@ -4,7 +4,7 @@ use Rattle.tsp_windows.specs.Instance.{closing}
 use Rattle.std.specs.Prelude.{unwrap_or}
 use Rattle.tsp_windows.specs.States.{shown}
 use Rattle.tsp_windows.specs.Shown.{instance_in}
-use Rattle.tsp_windows.proofs.Behind.{in_time_is, in_time_at, in_time_small, none_left, some_left}
+use Rattle.tsp_windows.proofs.Following.{in_time_is, in_time_at, in_time_small, none_left, some_left}
 use Rattle.tsp_windows.proofs.StateLemmas.{return_elsewhere, return_no, return_some, return_alone, return_nowhere}
 use Rattle.tsp_windows.proofs.instance.TspWindows.returned.Goals as goal
 

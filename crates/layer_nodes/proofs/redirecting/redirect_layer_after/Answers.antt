@@ -10,14 +10,14 @@ use Rattle.layer_nodes.specs.Steps.{MayBeLengthened}
 use Rattle.layer_nodes.specs.Stored.{node_view_by}
 use Rattle.layer_nodes.proofs.Redirected.{redirected-length}
 use Rattle.layer_nodes.proofs.Shown.{views-redirected, shown-redirected, bare-redirected, places-seen}
-use Rattle.layer_nodes.proofs.redirecting.redirect_layer_behind.Goals as goal
+use Rattle.layer_nodes.proofs.redirecting.redirect_layer_after.Goals as goal
 
 pub returns-clause-nodes : goal.returns-clause-nodes
 returns-clause-nodes c =
     let l = c.layer.inside in
     let ls = staying c.args.first ++ c.args.redirects.now in
-    let new = c.redirect_arcs_behind.new.arcs in
-    let each : AreRedirected ls l.arcs.items new = subst (λ a. AreRedirected ls a new) c.as_mut_slice.ensures.value c.redirect_arcs_behind.ensures in
+    let new = c.redirect_arcs_after.new.arcs in
+    let each : AreRedirected ls l.arcs.items new = subst (λ a. AreRedirected ls a new) c.as_mut_slice.ensures.value c.redirect_arcs_after.ensures in
     let size : length new ≡ l.arcs.len = redirected-length ls l.arcs.items new each ∙ search rules in
     let nodes = ap (λ (v : LayerView). v.nodes) c.layer.view_is in
     let far = subst (Each MayBeLengthened) (sym nodes) c.requires.lengths in

@@ -1,8 +1,8 @@
--- Arcs that get new targets only where the old ones stand behind the first nodes.
+-- Arcs that get new targets only where the old ones stand after the first nodes.
 use Rattle.std.proofs.Common.{◌≡◌, ℕ, ◌+◌, ◌<◌, pos, List, ◌++◌, slice_get, Option, Some, option_and_then, sym, ◌∙◌, ap}
 use Rattle.dp_laws.specs.declared.arc.DdArc.{DdArc}
 use Rattle.dp_laws.proofs.Diagrams.Places.{slice_get-append}
-use Rattle.dp_laws.proofs.Rules.Merged.{behind, length-staying, staying-at}
+use Rattle.dp_laws.proofs.Rules.Merged.{following, length-staying, staying-at}
 use Rattle.dp_laws.specs.Rules.Redirects.{Redirect, redirected_by, redirected}
 use Rattle.dp_laws.specs.Rules.Reducing.{staying}
 use Rattle.layer_nodes.specs.Redirecting.{redirect_of}
@@ -18,8 +18,8 @@ before-first ls arc first i e less =
     ∙ sym (ap (λ (t : Option ℕ). redirected_by arc (redirect_of (staying first ++ ls) t)) e ∙ ap (redirected_by arc) at))
 
 -- another is that of the redirects from there on
-pub behind-first : (ls : List (Option Redirect)) (arc : DdArc) (first i j : ℕ) → arc.target ≡ Some i → i ≡ first + j → redirected ls (record arc { target = Some j }) ≡ redirected (staying first ++ ls) arc
-behind-first ls arc first i j e sum =
+pub following-first : (ls : List (Option Redirect)) (arc : DdArc) (first i j : ℕ) → arc.target ≡ Some i → i ≡ first + j → redirected ls (record arc { target = Some j }) ≡ redirected (staying first ++ ls) arc
+following-first ls arc first i j e sum =
     let at : redirect_of (staying first ++ ls) (Some i) ≡ redirect_of ls (Some j) =
-    ap (λ k. option_and_then (λ (l : Option Redirect). l) (slice_get (staying first ++ ls) k)) sum ∙ ap (option_and_then (λ (l : Option Redirect). l)) (behind (staying first) ls first j (length-staying first)) in
+    ap (λ k. option_and_then (λ (l : Option Redirect). l) (slice_get (staying first ++ ls) k)) sum ∙ ap (option_and_then (λ (l : Option Redirect). l)) (following (staying first) ls first j (length-staying first)) in
     sym (ap (λ (t : Option ℕ). redirected_by arc (redirect_of (staying first ++ ls) t)) e ∙ ap (redirected_by arc) at)

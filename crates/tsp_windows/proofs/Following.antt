@@ -1,4 +1,4 @@
--- What the code knows of a decision: whether it is in time, and how many nodes must be visited before and behind it.
+-- What the code knows of a decision: whether it is in time, and how many nodes must be visited before and after it.
 use Rattle.std.proofs.Common.{◌≡◌, ℕ, ◌^◌, ◌<◌, ◌≤◌, ℤ, pos, ◌-ℤ◌, Bool, true, false, not, Option, Some, None, List, ◌≢◌, sym, ap, ◌∙◌, arith, FitsSigned, to_z, of_z, w64}
 use Rattle.std.specs.Prelude.{IfSome, is_some, if◌then◌else◌}
 use Rattle.std.proofs.lemmas.Bool.{and_left, and_parts, not-true}
@@ -12,14 +12,14 @@ use Rattle.pending_rows.proofs.Written.{time_cell}
 use Rattle.pending_rows.proofs.Tests.{read_count}
 
 -- a visit takes its node away from the nodes that must be visited
-pub left_behind : (i : Instance) (t : TourState) (p : Pending) (to : ℕ) (left : ℤ) → p ≡ t.pending → left ≡ pos (count_below i.nodes (without p.must to)) → left ≡ pos (count_below i.nodes (moved i t to).pending.must)
+pub left_after : (i : Instance) (t : TourState) (p : Pending) (to : ℕ) (left : ℤ) → p ≡ t.pending → left ≡ pos (count_below i.nodes (without p.must to)) → left ≡ pos (count_below i.nodes (moved i t to).pending.must)
 unfolding moved done
-left_behind i t p to left e is = is ∙ ap (λ (p : Pending). pos (count_below i.nodes (without p.must to))) e
+left_after i t p to left e is = is ∙ ap (λ (p : Pending). pos (count_below i.nodes (without p.must to))) e
 
--- no node is left behind the return
-pub none_behind : (i : Instance) (t : TourState) (to : ℕ) → true ≡ may_return i t to → pos 0 ≡ pos (count_below i.nodes (moved i t to).pending.must)
+-- no node is left after the return
+pub none_following : (i : Instance) (t : TourState) (to : ℕ) → true ≡ may_return i t to → pos 0 ≡ pos (count_below i.nodes (moved i t to).pending.must)
 unfolding moved done
-none_behind i t to returns =
+none_following i t to returns =
     let none = (and_parts _ _ (and_parts _ _ (sym returns)).1).0 in
     ap pos (sym (sum_below-none i.nodes (moved i t to).pending.must (λ _. 1) (λ v l. and_left (t.pending.must v) _ (not-true (t.pending.must v) (all_below-gives i.nodes (λ v. not (t.pending.must v)) none v l)))))
 

@@ -2,8 +2,8 @@ use Rattle.std.proofs.Common.{rules, ◌≡◌, ◌+◌, ◌<◌, Some, unwrap_o
 use Rattle.std.proofs.lemmas.Int.{to_z-of_z}
 use Rattle.dp_model.specs.Numbers.{IsFar}
 use Rattle.dp_laws.specs.Rules.Redirects.{redirected}
-use Rattle.layer_nodes.proofs.Behind.{before-first, behind-first}
-use Rattle.layer_nodes.proofs.redirecting.redirect_behind.Goals as goal
+use Rattle.layer_nodes.proofs.Following.{before-first, following-first}
+use Rattle.layer_nodes.proofs.redirecting.redirect_after.Goals as goal
 
 pub returns-in_err-place : goal.returns-in_err-place
 returns-in_err-place c = λ far.
@@ -22,4 +22,4 @@ returns c = λ far.
     let sum : c.in_ok-arc.field-0 ≡ a.first + c.in_ok-place.place = (let low = at.0 in let is = at.1 in omega arith) in
     c.redirect_arc.ensures (subst IsFar (sym longer) far)
     ∙ (ap₂ (λ g l. redirected a.redirects.now (record { decision = a.arc.decision; target = Some c.in_ok-place.place; gain = g; longer = l })) gain longer
-    ∙ behind-first a.redirects.now a.arc a.first c.in_ok-arc.field-0 c.in_ok-place.place c.in_ok-arc.was sum)
+    ∙ following-first a.redirects.now a.arc a.first c.in_ok-arc.field-0 c.in_ok-place.place c.in_ok-arc.was sum)

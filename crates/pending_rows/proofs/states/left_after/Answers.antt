@@ -3,7 +3,7 @@ use Rattle.std.proofs.lemmas.Bool.{or_left, or_right}
 use Rattle.node_sets.specs.Sets.{words_for}
 use Rattle.pending_rows.specs.Pending.{shown}
 use Rattle.pending_rows.proofs.Tests.{open_shown, must-shown, left_taken, left_kept}
-use Rattle.pending_rows.proofs.states.left_behind.Goals as goal
+use Rattle.pending_rows.proofs.states.left_after.Goals as goal
 
 pub returns-then-contains-clause-open : goal.returns-then-contains-clause-open
 returns-then-contains-clause-open c =
