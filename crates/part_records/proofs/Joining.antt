@@ -44,12 +44,12 @@ module _ (dp : Dp) (b : BoardState) (of : ℕ) (found : ℕ → Option ℤ) (g :
       let from = Has-map-from (λ (o : Ticketed). o.subproblem.decisions) (frontier b) p has in
       let o = from.0 in
       let os = map listed_recorded (frontier_of b) in
-      let listed = Has-map listed_recorded (frontier_of b) o (Has-permutation (frontier b) (frontier_of b) (moved-in_order (frontier b)) o from.1.0) in
+      let listed = Has-map listed_recorded (frontier_of b) o (Has-permutation (frontier b) (frontier_of b) (moved-in_order (frontier b)) o from.1) in
       let dealt = member-dealt (part_of (bounds_in os) of) of (λ j. mod_below (turn_of (bounds_in os) j) of some) 0 os (listed_recorded o) listed in
       record {
         index = dealt.index;
         less = dealt.less;
-        has = subst (λ q. Has q (starts_of (dealt_record of dealt.index (snapshot_record b)))) from.1.1
+        has = subst (λ q. Has q (starts_of (dealt_record of dealt.index (snapshot_record b)))) from.2
             (Has-map (λ (o : ListedView). o.decisions) _ (listed_recorded o) dealt.has);
       }
 

@@ -1,0 +1,5 @@
+use Rattle.part_reports.proofs.Told.{reports-join}
+use Rattle.part_reports.proofs.laws.reports_join.Goals as goal
+
+pub returns : goal.returns
+returns c = reports-join

@@ -1,0 +1,25 @@
+//! Reports of the parts of a search that was dealt out by its frontier, tested and joined.
+//!
+//! A part is searched by itself. What its search has settled is told by a `PartReport`: which part it is, of which journal, and the best
+//! solution that was found. `join_reports` takes one report for each part. It trusts no value: each must be that of its decisions. The
+//! crate stands on `part_records` for what the parts are, and on `frontier_parts` for the greatest value.
+//!
+//! The function without parameters is a law. Where reports are joined, and each tells what the search of its part has settled, the joined
+//! value is the best one, or no solution is further above it than the distance of the search (`reports_join`).
+//!
+//! ```
+//! // The greatest of the incumbent, 7, and of the values of all parts, with the first part that has it.
+//! let joined = join_reports(alloc, &model, &digest, Some(7), &reports)?;
+//! ```
+#![tactic(auto)]
+
+mod fault;
+mod joining;
+mod laws;
+mod report;
+mod testing;
+
+pub use fault::ReportFault;
+pub use joining::join_reports;
+pub use laws::reports_join;
+pub use report::PartReport;
