@@ -93,8 +93,8 @@ pub first_free : (cells : List ℤ) (words fresh free given : ℕ) → HasFreeCh
 first_free cells words fresh free zero c some = absurd (some refl)
 first_free cells words fresh free (suc n) c some = c.free_rows.0
 
-pub given_room : (cells : List ℤ) (words count fresh free given : ℕ) → IsSound cells words count fresh free given → (given ≡ 0 → ⊥) → free * words + words ≤ length cells
-given_room cells words count fresh free given s some =
+pub given_room : (cells : List ℤ) (words made count fresh free given : ℕ) → IsSound cells words made count fresh free given → (given ≡ 0 → ⊥) → free * words + words ≤ length cells
+given_room cells words made count fresh free given s some =
     let f = first_free cells words fresh free given s.chained some in
     let h = row_within free fresh words f.within in
     let e = s.chained.room in
@@ -106,8 +106,8 @@ none_at cells words count free spare chain =
     let ps = free_from cells words (suc spare) free in
     table-get (live_row_at cells words ps) count free chain.free_rows.0.within ∙ ap Some (head_none cells words free (free_from cells words spare (named (first_cell cells words free))))
 
-pub popped_given : (cells : List ℤ) (words count fresh free given : ℕ) → IsSound cells words count fresh free (suc given) → HasPopped cells words count fresh free (suc given) free fresh (named (first_cell cells words free)) given
-popped_given cells words count fresh free given s = record {
+pub popped_given : (cells : List ℤ) (words made count fresh free given : ℕ) → IsSound cells words made count fresh free (suc given) → HasPopped cells words made count fresh free (suc given) free fresh (named (first_cell cells words free)) given
+popped_given cells words made count fresh free given s = record {
   within = within;
   most = s.within;
   was_free = front_get (slots cells words fresh free (suc given)) (replicate (count - fresh) None) free None (none_at cells words fresh free given s.chained);
@@ -121,15 +121,16 @@ popped_given cells words count fresh free given s = record {
     within = s.chained.free_rows.0.within
 
 -- the first one that was not taken yet
-pub popped_fresh : (cells : List ℤ) (words count fresh free : ℕ) → IsSound cells words count fresh free 0 → fresh < count → HasPopped cells words count fresh free 0 fresh (suc fresh) free 0
-popped_fresh cells words count fresh free s low = record {
+pub popped_fresh : (cells : List ℤ) (words made count fresh free : ℕ) → IsSound cells words made count fresh free 0 → fresh < made → HasPopped cells words made count fresh free 0 fresh (suc fresh) free 0
+popped_fresh cells words made count fresh free s low = record {
   within = omega arith;
   most = omega arith;
   was_free = ap (λ (l : List (Option (List ℤ))). slice_get l fresh) all ∙ (slice_get-get_or (olds ++ None ∷ rest) fresh None in-all ∙ ap Some (get_or_at olds None rest None fresh long));
-  spare = omega arith;
+  spare = let e = s.enough in omega arith;
   chained = λ new but. (
       let e = but.size in
       let few = s.few in
+      let enough = s.enough in
       let r = room in
       record { positive = s.chained.positive; room = omega arith; small = omega arith; first = s.chained.first; free_rows = tt; apart = tt });
   rows = λ new but.
@@ -148,7 +149,7 @@ popped_fresh cells words count fresh free s low = record {
     long = length-table (live_row_at cells words []) fresh
 
     all : slots cells words fresh free 0 ++ replicate (count - fresh) None ≡ slots cells words fresh free 0 ++ None ∷ replicate (count - suc fresh) None
-    all = let more : count - fresh ≡ suc (count - suc fresh) = omega arith in ap (λ (n : ℕ). slots cells words fresh free 0 ++ replicate n None) more
+    all = let e = s.enough in let more : count - fresh ≡ suc (count - suc fresh) = omega arith in ap (λ (n : ℕ). slots cells words fresh free 0 ++ replicate n None) more
 
     in-all : fresh < length (slots cells words fresh free 0 ++ None ∷ replicate (count - suc fresh) None)
     in-all =
@@ -158,22 +159,22 @@ popped_fresh cells words count fresh free s low = record {
 
     room : suc fresh * words ≤ length cells
     room =
-        let h = row_within fresh count words low in
+        let h = row_within fresh made words low in
         let e = s.size in
         let more = suc-mul fresh words in
         omega arith
 
-module _ (cells new : List ℤ) (words count fresh free given place new_fresh new_free new_given : ℕ) (s : IsSound cells words count fresh free given) (popped : HasPopped cells words count fresh free given place new_fresh new_free new_given) where
+module _ (cells new : List ℤ) (words made count fresh free given place new_fresh new_free new_given : ℕ) (s : IsSound cells words made count fresh free given) (popped : HasPopped cells words made count fresh free given place new_fresh new_free new_given) where
   pub popped_room : place * words + words ≤ length cells
   popped_room =
       let less = popped.within in
       let most = popped.most in
-      let h = row_within place count words (omega arith) in
+      let h = row_within place made words (omega arith) in
       let e = s.size in
       omega arith
 
-  pub popped_sound : SameBut cells new words place → IsSound new words count new_fresh new_free new_given
-  popped_sound but = record { chained = popped.chained new but; within = popped.most; few = s.few; size = but.size ∙ s.size }
+  pub popped_sound : SameBut cells new words place → IsSound new words made count new_fresh new_free new_given
+  popped_sound but = record { chained = popped.chained new but; within = popped.most; enough = s.enough; few = s.few; size = but.size ∙ s.size }
 
   pub popped_put : SameBut cells new words place → (row : List ℤ) → row_at new words place ≡ row
       → HasPut (record { words = words; rows = places cells words count fresh free given; spare = given + (count - fresh) }) place row

@@ -61,7 +61,7 @@ module _ (cells : List ℤ) (words p : ℕ) (w : List ℤ) (room : p * words + w
   pub written_whole : (len : ℕ) → len ≡ length cells → take len (written at words cells w ++ drop (length (written at words cells w)) cells) ≡ written at words cells w
   written_whole len e = take_at (written at words cells w) (drop (length (written at words cells w)) cells) len (length-written ∙ sym e)
 
-module _ (cells : List ℤ) (words count fresh free given p len : ℕ) (row w : List ℤ) (sound : IsSound cells words count fresh free given) (live : slice_get (places cells words count fresh free given) p ≡ Some (Some row)) (same : len ≡ length cells) where
+module _ (cells : List ℤ) (words made count fresh free given p len : ℕ) (row w : List ℤ) (sound : IsSound cells words made count fresh free given) (live : slice_get (places cells words count fresh free given) p ≡ Some (Some row)) (same : len ≡ length cells) where
   abbrev now : List ℤ
   now = take len (written (p * words) words cells w ++ drop (length (written (p * words) words cells w)) cells)
 
@@ -71,13 +71,14 @@ module _ (cells : List ℤ) (words count fresh free given p len : ℕ) (row w : 
   is_written : now ≡ written (p * words) words cells w
   is_written = written_whole cells words p w (live_room cells words fresh free given p row sound.chained taken) len same
 
-  pub lent_sound : IsSound now words count fresh free given
+  pub lent_sound : IsSound now words made count fresh free given
   lent_sound =
       let room = live_room cells words fresh free given p row sound.chained taken in
       let but = written_but cells words p w room in
       rw is_written (record {
         chained = write_chained cells (written (p * words) words cells w) words fresh free given p sound.chained but (live_apart cells words fresh free given p row sound.chained taken);
         within = sound.within;
+        enough = sound.enough;
         few = sound.few;
         size = but.size ∙ sound.size;
       })

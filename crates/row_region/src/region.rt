@@ -4,7 +4,7 @@ ghost use Rattle.row_region.specs.Region.{IsLive, IsRow, HasTaken, HasPut};
 ghost use Rattle.row_region.specs.Lending.{LendsRow};
 
 use crate::parting::part_of;
-use crate::threading::pop;
+use crate::threading::{make_ready, pop};
 use std::alloc::{AllocError, Global};
 use std::marker::Model;
 
@@ -17,12 +17,15 @@ pub struct RowId {
     pub place: u32,
 }
 
-/// Rows of one length in one block of cells. Each is live or free.
+/// Rows of one length in one block of cells. Each is live or free. The cells of a row are written when it is taken for the first
+/// time, so that memory for rows that are never taken stays untouched.
 #[derive(Debug, Drop)]
 pub struct Region {
-    // the rows, one after the other; the first cell of one that was given back is the place of the next such one
+    // the first `made` rows, one after the other, with room for the others; the first cell of one that was given back is the
+    // place of the next such one
     cells: Vec<i64>,
     words: usize,
+    made: usize,
     count: usize,
     // the place of the first row that was not taken yet; so were none after it
     fresh: usize,
@@ -36,12 +39,12 @@ impl Model for Region {
 
     ghost Value = { RegionView };
 
-    ghost use Rattle.std.specs.Prelude.{◌+◌, ◌-◌};
+    ghost use Rattle.std.specs.Prelude.{◌+◌, ◌-◌, ◌*◌, ◌≤◌, vec_capacity};
     ghost use Rattle.row_region.specs.Layout.{IsSound, places};
 
     ghost view = { λ r. record { words = r.words; rows = places r.cells.items r.words r.count r.fresh r.free r.given; spare = r.given + (r.count - r.fresh) } };
 
-    ghost invariant = { λ r. IsSound r.cells.items r.words r.count r.fresh r.free r.given };
+    ghost invariant = { λ r. IsSound r.cells.items r.words r.made r.count r.fresh r.free r.given × (r.count * r.words ≤ vec_capacity r.cells) };
 }
 
 impl Region {
@@ -55,6 +58,7 @@ impl Region {
         Region {
             cells: Vec::new(alloc),
             words,
+            made: 0,
             count: 0,
             fresh: 0,
             free: 0,
@@ -80,9 +84,18 @@ impl Region {
         requires { 0 < self.old.spare }
         ensures { (row : List ℤ) × (length row ≡ self.old.words) × HasPut self.old result.place row self.new }
     {
+        make_ready(
+            &mut self.cells,
+            self.words,
+            self.count,
+            &mut self.made,
+            self.fresh,
+            self.given,
+        );
         let place = pop(
             &self.cells,
             self.words,
+            self.made,
             self.count,
             &mut self.fresh,
             &mut self.free,
@@ -190,7 +203,7 @@ impl Region {
         let Some(size) = count.checked_mul(self.words) else {
             return Err(AllocError);
         };
-        self.cells.resize(size, 0)?;
+        self.cells.reserve(size - self.cells.len())?;
         self.count = count;
         Ok(())
     }
