@@ -10,7 +10,9 @@ fn a_row_is_taken_once(rt: HostRuntime) -> Result<(), Fail> {
     let Some(first) = region.take() else {
         return Err(Fail::from("no row is free at first"));
     };
-    assert!(rt; region.take().is_none());
+    let None = region.take() else {
+        return Err(Fail::from("a second row is free"));
+    };
     assert_eq!(rt; region.row(first), [0, 0].as_slice());
     region.row_mut(first).fill(7);
     assert_eq!(rt; region.row(first), [7, 7].as_slice());
