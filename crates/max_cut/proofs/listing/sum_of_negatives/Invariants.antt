@@ -1,6 +1,6 @@
 use Rattle.std.proofs.Common.{◌≡◌, pos, ◌+ℤ◌, ◌≤ℤ◌, drop}
 use Rattle.max_cut.specs.Graph.{negatives_of}
-use Rattle.max_cut.proofs.layers.sum_of_negatives.Given as goal
+use Rattle.max_cut.proofs.listing.sum_of_negatives.Given as goal
 
 -- the negatives so far and those of the rest make the sum
 abbrev pub invariant-loop-weight : goal.invariant-loop-weight

@@ -6,7 +6,7 @@ use Rattle.max_cut.specs.Graph.{negatives_of}
 use Rattle.max_cut.specs.Laws.Graph.{negatives_of-bounds}
 use Rattle.benefit_rows.proofs.Steps.{read_at, size_of-at}
 use Rattle.max_cut.proofs.Passes.{negatives_of-drop_more}
-use Rattle.max_cut.proofs.layers.sum_of_negatives.Goals as goal
+use Rattle.max_cut.proofs.listing.sum_of_negatives.Goals as goal
 
 -- what one weight adds
 added : (ws : List ℤ) (i : ℕ) (got : ℤ) → i < length ws → rank_of ws ≤ℤ pos (2 ^ 50) → got ≡ int_min (to_z w64 (of_z w64 (get_or ws i (pos 0)))) (pos 0)
