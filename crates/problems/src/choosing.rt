@@ -22,7 +22,7 @@ macro_rules! by_name {
                 $call::<$crate::choosing::Knapsack $($(, $other)*)?>($($argument),*)
             }
             $crate::choosing::ModelName::MaxCut => {
-                $call::<$crate::choosing::MaxCut $($(, $other)*)?>($($argument),*)
+                $call::<$crate::choosing::PairModel<$crate::choosing::MaxCut> $($(, $other)*)?>($($argument),*)
             }
             $crate::choosing::ModelName::MaxTwoSat => {
                 $call::<$crate::choosing::MaxTwoSat $($(, $other)*)?>($($argument),*)
