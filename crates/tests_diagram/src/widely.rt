@@ -83,8 +83,8 @@ fn are_candidates<M: DpModel>(rt: &impl Abort, alloc: Global, model: &M)
     requires { 0 < (M.meaning (M.numbers model.now)).vars }
 {
     let root = root_of(rt, alloc, model);
-    let mut space = space_for(rt, alloc, model, 1);
     for wanted in [(0, 0, Some(0), 10), (1, 1, Some(60), 5), (0, 1, None, 0)] {
+        let mut space = space_for(rt, alloc, model, 1);
         is_candidate(rt, alloc, model, &mut space, &root, wanted);
     }
 }
