@@ -5,7 +5,7 @@ use Rattle.std.proofs.lemmas.List.{drop_more, length-drop, take-append-drop}
 use Rattle.benefit_rows.specs.Benefits.{size_of, rank_of}
 use Rattle.benefit_rows.specs.BenefitLaws.{size_of-positive, size_of-add, rank_of-positive, rank_of-append, rank_of-drop}
 use Rattle.benefit_rows.proofs.Steps.{fits_by_size}
-use Rattle.max_cut.specs.Graph.{pairs_of}
+use Rattle.pair_rows.specs.Pairs.{pair_count}
 use Rattle.max_cut.specs.Cuts.{across_from, weight_across}
 
 crossing-size : (b : Bool) (w : ℤ) → size_of (cond b (pos 0) w) ≤ℤ size_of w
@@ -37,7 +37,7 @@ rank_of-take n ws = omega (arith, ints, rank_of-parts n ws, rank_of-positive (dr
 -- what is counted and what is left of the weights and the sides make the weight across
 pub record Crosses (ws rest : List ℤ) (sides : List ℕ) (k : ℕ) (total : ℤ) : Type 0 where
   pub so_far : total +ℤ weight_across rest (drop k sides) ≡ weight_across ws sides
-  pub long : length rest ≡ pairs_of (length sides - k)
+  pub long : length rest ≡ pair_count (length sides - k)
   pub rank : rank_of rest ≤ℤ pos (2 ^ 50)
 
 -- what is counted is of no great size
@@ -50,12 +50,12 @@ crosses-fits ws rest sides k total small crosses =
 
 -- the pairs that are left are those of the next vertex and the others
 pairs_left : (sides later : List ℕ) (k : ℕ) → k < length sides → later ≡ drop (k + 1) sides
-    → pairs_of (length sides - k) ≡ length later + pairs_of (length sides - (k + 1))
+    → pair_count (length sides - k) ≡ length later + pair_count (length sides - (k + 1))
 pairs_left sides later k h e =
     let one : length sides - k ≡ suc (length sides - (k + 1)) = omega arith in
-    ap pairs_of one ∙ ap (λ n. n + pairs_of (length sides - (k + 1))) (sym (ap length e ∙ length-drop (k + 1) sides))
+    ap pair_count one ∙ ap (λ n. n + pair_count (length sides - (k + 1))) (sym (ap length e ∙ length-drop (k + 1) sides))
 
-pub row_fits : (rest : List ℤ) (sides later : List ℕ) (k : ℕ) → k < length sides → later ≡ drop (k + 1) sides → length rest ≡ pairs_of (length sides - k)
+pub row_fits : (rest : List ℤ) (sides later : List ℕ) (k : ℕ) → k < length sides → later ≡ drop (k + 1) sides → length rest ≡ pair_count (length sides - k)
     → length later ≤ length rest
 row_fits rest sides later k h e long = let pairs = pairs_left sides later k h e in omega arith
 

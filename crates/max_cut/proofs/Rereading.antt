@@ -17,8 +17,10 @@ use Rattle.tokens.specs.Chain.{until, never, times}
 use Rattle.tokens.specs.Decimal.{decimal_of}
 use Rattle.tokens.specs.Printed.{IsBefore}
 use Rattle.tokens.proofs.Printing.{before_start, passes_number, passes_natural, finishes}
-use Rattle.max_cut.specs.Graph.{Graph, IsGraph, IsWeight, pairs_of, row_start, row_of, weights_from}
-use Rattle.max_cut.specs.Laws.Graph.{row_start-next, row_within, length-row_of, weights_from-split, weights_from-none, pairs_of-most}
+use Rattle.pair_rows.specs.Pairs.{pair_count, entries_before}
+use Rattle.max_cut.specs.Graph.{Graph, IsGraph, IsWeight, row_of, weights_from}
+use Rattle.pair_rows.specs.Laws.Pairs.{pair_count-most}
+use Rattle.max_cut.specs.Laws.Graph.{entries_before-next, row_within, length-row_of, weights_from-split, weights_from-none}
 use Rattle.max_cut.specs.Program.{zeros}
 use Rattle.max_cut.specs.Edges.{vertex_from, vertex_at, place_among, with_edge, made_before, edge_at, instance_at}
 use Rattle.max_cut.specs.EdgeLines.{is_none, edges_in, edge_line, row_lines, lines_from, text_of}
@@ -73,7 +75,7 @@ is_none-true : (w : ℤ) → is_none w ≡ true → w ≡ pos 0
 is_none-true w h = grind (arith, ints)
 
 -- the first weight of a pair takes the place of a zero
-first_weight : (n : ℕ) (done : List ℤ) (m i j : ℕ) (w : ℤ) (place : Place) → i < j → length done ≡ row_start n i + (j - (i + 1)) → IsWeight w
+first_weight : (n : ℕ) (done : List ℤ) (m i j : ℕ) (w : ℤ) (place : Place) → i < j → length done ≡ entries_before n i + (j - (i + 1)) → IsWeight w
     → with_edge n (done ++ pos 0 ∷ zeros m) i j w place ≡ Ok ((done ++ w ∷ []) ++ zeros m)
 unfolding with_edge
 first_weight n done m i j w place below at weight =
@@ -99,7 +101,7 @@ times_edge n m totals more s t e = rw e refl
 
 -- a pair without an edge has no line, and an edge is read from its line
 reads_pair : (n : ℕ) (done : List ℤ) (i j : ℕ) (w : ℤ) (m left : ℕ) (more : List ℕ) (s : TextState) (b : Bool) → is_none w ≡ b → n ≤ 1024 → i < j → j < n → IsWeight w
-    → length done ≡ row_start n i + (j - (i + 1)) → IsBefore (cond b [] (edge_line i j w) ++ more) s
+    → length done ≡ entries_before n i + (j - (i + 1)) → IsBefore (cond b [] (edge_line i j w) ++ more) s
     → Goes n (cond b 0 1 + left) (done ++ pos 0 ∷ zeros m) s left ((done ++ w ∷ []) ++ zeros m) more
 reads_pair n done i j w m left more s true none few below short weight at before =
     let same : done ++ pos 0 ∷ zeros m ≡ (done ++ w ∷ []) ++ zeros m = ap (λ z. done ++ z ∷ zeros m) (sym (is_none-true w none)) ∙ sym (append_assoc done (w ∷ []) (zeros m)) in
@@ -120,7 +122,7 @@ reads_pair n done i j w m left more s false some few below short weight at befor
 
 -- the lines of a row are read as its weights, in the place of as many zeros
 reads_row : (n : ℕ) (done : List ℤ) (i j : ℕ) (ws : List ℤ) (r m : ℕ) (more : List ℕ) (s : TextState) → n ≤ 1024 → i < j → j + length ws ≤ n → All IsWeight ws
-    → length done ≡ row_start n i + (j - (i + 1)) → IsBefore (row_lines i j ws ++ more) s
+    → length done ≡ entries_before n i + (j - (i + 1)) → IsBefore (row_lines i j ws ++ more) s
     → Goes n (edges_in ws + m) (done ++ zeros (length ws + r)) s m ((done ++ ws) ++ zeros r) more
 reads_row n done i j [] r m more s few below short small at before = record {
   following = s;
@@ -132,7 +134,7 @@ reads_row n done i j (w ∷ ws) r m more s few below short small at before =
     let counted : edges_in (w ∷ ws) + m ≡ cond (is_none w) 0 1 + (edges_in ws + m) = omega arith in
     let grown : suc (length ws) + r ≡ suc (length ws + r) = omega arith in
     let first = reads_pair n done i j w (length ws + r) (edges_in ws + m) (row_lines i (j + 1) ws ++ more) s (is_none w) refl few below (omega arith) (All-head IsWeight w ws small) at (subst (λ bytes. IsBefore bytes s) joined before) in
-    let longer : length (done ++ w ∷ []) ≡ row_start n i + (j + 1 - (i + 1)) = omega (arith, length-append done (w ∷ [])) in
+    let longer : length (done ++ w ∷ []) ≡ entries_before n i + (j + 1 - (i + 1)) = omega (arith, length-append done (w ∷ [])) in
     let rest = reads_row n (done ++ w ∷ []) i (j + 1) ws r m more first.following few (omega arith) (omega arith) (All-tail IsWeight w ws small) longer first.before in
     record {
       following = rest.following;
@@ -159,13 +161,13 @@ edges_in-most (w ∷ ws) = most_of_pair (is_none w) (edges_in ws) (length ws) (e
 record ReadsAll (g : Graph) (k : ℕ) (s : TextState) (more : List ℕ) : Type 0 where
   following : TextState
   before : IsBefore more following
-  is : times (edge_at g.vertices) (edges_in (weights_from g k)) (take (row_start g.vertices k) g.weights ++ zeros (length (weights_from g k))) s ≡ Ok (g.weights, following)
+  is : times (edge_at g.vertices) (edges_in (weights_from g k)) (take (entries_before g.vertices k) g.weights ++ zeros (length (weights_from g k))) s ≡ Ok (g.weights, following)
 
-reads_none : (g : Graph) (k : ℕ) (s : TextState) → weights_from g k ≡ [] → times (edge_at g.vertices) (edges_in (weights_from g k)) (take (row_start g.vertices k) g.weights ++ zeros (length (weights_from g k))) s ≡ Ok (g.weights, s)
+reads_none : (g : Graph) (k : ℕ) (s : TextState) → weights_from g k ≡ [] → times (edge_at g.vertices) (edges_in (weights_from g k)) (take (entries_before g.vertices k) g.weights ++ zeros (length (weights_from g k))) s ≡ Ok (g.weights, s)
 unfolding times until
 reads_none g k s none =
-    let whole : take (row_start g.vertices k) g.weights ++ [] ≡ g.weights = ap (λ ws. take (row_start g.vertices k) g.weights ++ ws) (sym none) ∙ take-append-drop (row_start g.vertices k) g.weights in
-    ap (λ ws. times (edge_at g.vertices) (edges_in ws) (take (row_start g.vertices k) g.weights ++ zeros (length ws)) s) none ∙ ap (λ ws. Ok (ws, s)) whole
+    let whole : take (entries_before g.vertices k) g.weights ++ [] ≡ g.weights = ap (λ ws. take (entries_before g.vertices k) g.weights ++ ws) (sym none) ∙ take-append-drop (entries_before g.vertices k) g.weights in
+    ap (λ ws. times (edge_at g.vertices) (edges_in ws) (take (entries_before g.vertices k) g.weights ++ zeros (length ws)) s) none ∙ ap (λ ws. Ok (ws, s)) whole
 
 reads_rows : (g : Graph) → IsGraph g → (k m : ℕ) (more : List ℕ) (s : TextState) → k + m ≡ g.vertices → IsBefore (lines_from g k m ++ more) s → ReadsAll g k s more
 reads_rows g h k zero more s whole before =
@@ -174,20 +176,20 @@ reads_rows g h k zero more s whole before =
     record { following = s; before = before; is = reads_none g k s none }
 reads_rows g h k (suc m) more s whole before =
     let n = g.vertices in
-    let done = take (row_start n k) g.weights in
+    let done = take (entries_before n k) g.weights in
     let row = row_of g k in
     let rest = weights_from g (k + 1) in
     let joined : lines_from g k (suc m) ++ more ≡ row_lines k (k + 1) row ++ (lines_from g (k + 1) m ++ more) = append_assoc (row_lines k (k + 1) row) (lines_from g (k + 1) m) more in
     let long : length row ≡ n - (k + 1) = length-row_of g h k (omega arith) in
     let within = row_within g h k (omega arith) in
-    let placed : length done ≡ row_start n k = length-take-le (row_start n k) g.weights (omega arith) in
+    let placed : length done ≡ entries_before n k = length-take-le (entries_before n k) g.weights (omega arith) in
     let few = h.few in
-    let first = reads_row n done k (k + 1) row (length rest) (edges_in rest) (lines_from g (k + 1) m ++ more) s few (omega arith) (omega arith) (All-take IsWeight (n - (k + 1)) (weights_from g k) (All-drop IsWeight (row_start n k) g.weights h.small)) (omega arith) (subst (λ bytes. IsBefore bytes s) joined before) in
+    let first = reads_row n done k (k + 1) row (length rest) (edges_in rest) (lines_from g (k + 1) m ++ more) s few (omega arith) (omega arith) (All-take IsWeight (n - (k + 1)) (weights_from g k) (All-drop IsWeight (entries_before n k) g.weights h.small)) (omega arith) (subst (λ bytes. IsBefore bytes s) joined before) in
     let later = reads_rows g h (k + 1) m more first.following (omega arith) first.before in
     let split = weights_from-split g k in
     let edges : edges_in (weights_from g k) ≡ edges_in row + edges_in rest = ap edges_in (sym split) ∙ edges_in-append row rest in
     let lengths : length (weights_from g k) ≡ length row + length rest = ap length (sym split) ∙ length-append row rest in
-    let next : done ++ row ≡ take (row_start n (k + 1)) g.weights = sym (take-add (row_start n k) (n - (k + 1)) g.weights) ∙ ap (λ at. take at g.weights) (sym (row_start-next n k)) in
+    let next : done ++ row ≡ take (entries_before n (k + 1)) g.weights = sym (take-add (entries_before n k) (n - (k + 1)) g.weights) ∙ ap (λ at. take at g.weights) (sym (entries_before-next n k)) in
     record {
       following = later.following;
       before = later.before;
@@ -207,7 +209,7 @@ reads_back g h comment =
     let n = g.vertices in
     let few = h.few in
     let edges = edges_in g.weights in
-    let many : edges ≤ 2 ^ 20 = omega (arith, edges_in-most g.weights, pairs_of-most n h.few, h.whole) in
+    let many : edges ≤ 2 ^ 20 = omega (arith, edges_in-most g.weights, pair_count-most n h.few, h.whole) in
     let s = text_start comment (text_of g) in
     let lines = lines_from g 0 n in
     let one = passes_natural n 0 1024 32 _ s (omega arith) few (omega arith) refl (subst (λ bytes. IsBefore bytes s) (text_before g) (before_start comment (text_of g))) in
@@ -215,7 +217,7 @@ reads_back g h comment =
     let two = passes_natural edges 0 (2 ^ 20) 10 lines t (omega arith) many (omega arith) refl one.before in
     let u = after_token t in
     let all = reads_rows g h 0 n [] u (omega arith) (subst (λ bytes. IsBefore bytes u) (sym (append-nil lines)) two.before) in
-    let zeros_all : zeros (pairs_of n) ≡ zeros (length g.weights) = ap zeros (sym h.whole) in
-    let read : times (edge_at n) edges (zeros (pairs_of n)) u ≡ Ok (g.weights, all.following) = ap (λ zs. times (edge_at n) edges zs u) zeros_all ∙ all.is in
+    let zeros_all : zeros (pair_count n) ≡ zeros (length g.weights) = ap zeros (sym h.whole) in
+    let read : times (edge_at n) edges (zeros (pair_count n)) u ≡ Ok (g.weights, all.following) = ap (λ zs. times (edge_at n) edges zs u) zeros_all ∙ all.is in
     let ends = finishes all.following all.before in
     rw (one.value, two.value, read, ends) refl

@@ -6,8 +6,10 @@ use Rattle.std.proofs.lemmas.List.{length-append}
 use Rattle.std.proofs.lemmas.List.Elements.{All-take, All-drop, All-head, All-tail}
 use Rattle.tokens.specs.Decimal.{decimal_of}
 use Rattle.tokens.proofs.Lengths.{number_short}
-use Rattle.max_cut.specs.Graph.{Graph, IsGraph, IsWeight, row_start, row_of, weights_from}
-use Rattle.max_cut.specs.Laws.Graph.{length-row_of, weights_from-split, pairs_of-most}
+use Rattle.pair_rows.specs.Pairs.{entries_before}
+use Rattle.max_cut.specs.Graph.{Graph, IsGraph, IsWeight, row_of, weights_from}
+use Rattle.pair_rows.specs.Laws.Pairs.{pair_count-most}
+use Rattle.max_cut.specs.Laws.Graph.{length-row_of, weights_from-split}
 use Rattle.max_cut.specs.EdgeLines.{is_none, edges_in, spaced, ended, edge_line, row_lines, lines_from, text_of}
 use Rattle.max_cut.proofs.Rereading.{edges_in-most, written}
 
@@ -40,7 +42,7 @@ lines_short g h k (suc m) whole =
     let row = length-row_of g h k (omega arith) in
     let few = h.few in
     let split = ap length (sym (weights_from-split g k)) ∙ length-append (row_of g k) (weights_from g (k + 1)) in
-    let first = row_short k (k + 1) (row_of g k) (omega arith) (omega arith) (All-take IsWeight (g.vertices - (k + 1)) (weights_from g k) (All-drop IsWeight (row_start g.vertices k) g.weights h.small)) in
+    let first = row_short k (k + 1) (row_of g k) (omega arith) (omega arith) (All-take IsWeight (g.vertices - (k + 1)) (weights_from g k) (All-drop IsWeight (entries_before g.vertices k) g.weights h.small)) in
     omega (arith, length-append (row_lines k (k + 1) (row_of g k)) (lines_from g (k + 1) m), lines_short g h (k + 1) m (omega arith))
 
 -- the canonical text of a graph
@@ -48,7 +50,7 @@ pub text_short : (g : Graph) → IsGraph g → length (text_of g) ≤ 2 ^ 30
 text_short g h =
     let few = h.few in
     let whole = h.whole in
-    let most = pairs_of-most g.vertices h.few in
+    let most = pair_count-most g.vertices h.few in
     let edges : edges_in g.weights ≤ 2 ^ 20 = omega (arith, edges_in-most g.weights) in
     let lines = lines_short g h 0 g.vertices (omega arith) in
     let count = length-decimal-le 10 (edges_in g.weights) (omega arith) (omega arith) (omega arith) in

@@ -9,7 +9,8 @@ use Rattle.tokens.specs.declared.text_error.TextError.TheVariants.{NotNumber, Ou
 use Rattle.tokens.specs.declared.instance_error.InstanceError.{InstanceError}
 use Rattle.tokens.specs.Grammar.{of_text, number_then, end_then, part_then, times}
 use Rattle.tokens.specs.declared.instance_error.InstanceFault.TheVariants.{Vertex, Limit}
-use Rattle.max_cut.specs.Graph.{Graph, pairs_of, row_start}
+use Rattle.pair_rows.specs.Pairs.{pair_count as pairs_of, entries_before as row_start}
+use Rattle.max_cut.specs.Graph.{Graph}
 use Rattle.max_cut.specs.Program.{zeros}
 
 -- the same fault at the same place, but a number outside the range of the vertices is no vertex

@@ -1,7 +1,8 @@
 -- Graphs that are drawn from a seed.
 use Rattle.std.specs.Prelude.{ℕ, ◌%◌, ◌==◌, ℤ, pos, ◌-ℤ◌, Bool, List, [], ◌∷◌, ◌++◌, if◌then◌else◌}
 use Rattle.draws.specs.Draws.{next, drawn, steps}
-use Rattle.max_cut.specs.Graph.{Graph, pairs_of}
+use Rattle.pair_rows.specs.Pairs.{pair_count as pairs_of}
+use Rattle.max_cut.specs.Graph.{Graph}
 
 -- one draw in four makes an edge
 abbrev pub makes_edge : ℕ → Bool

@@ -1,18 +1,14 @@
 -- Graphs with a weight for each pair of vertices.
-use Rattle.std.specs.Prelude.{◌≡◌, ℕ, zero, suc, ◌+◌, ◌-◌, ◌≤◌, ℤ, pos, ◌+ℤ◌, ◌≤ℤ◌, unsigned_abs, List, [], ◌∷◌, length, take, drop, slice_index_or}
+use Rattle.std.specs.Prelude.{◌≡◌, ℕ, ◌+◌, ◌-◌, ◌≤◌, ℤ, pos, ◌+ℤ◌, ◌≤ℤ◌, unsigned_abs, List, [], ◌∷◌, length, take, drop}
 use Rattle.std.specs.Int.{int_min}
 use Rattle.std.specs.List.{All}
-use Rattle.benefit_rows.specs.Benefits.{size_of, rank_of}
+use Rattle.benefit_rows.specs.Benefits.{size_of}
+use Rattle.pair_rows.specs.Pairs.{pair_count as pairs_of, entries_before as row_start}
 
 -- the vertices are numbered from 0; the weights of their pairs stand by the first vertex, then by the second
 pub record Graph : Type 0 where
   pub vertices : ℕ
   pub weights : List ℤ
-
--- how many pairs this many vertices make
-abbrev pub pairs_of : ℕ → ℕ
-pairs_of zero = 0
-pairs_of (suc n) = n + pairs_of n
 
 -- a weight is at most 500,000,000 in size
 abbrev pub IsWeight : ℤ → Type 0
@@ -33,11 +29,6 @@ abbrev pub instance_of : List ℤ → Graph
 instance_of [] = record { vertices = 0; weights = [] }
 instance_of (n ∷ ws) = record { vertices = unsigned_abs n; weights = ws }
 
--- of n vertices, how many pairs have their first vertex before k
-abbrev pub row_start : ℕ → ℕ → ℕ
-row_start n zero = 0
-row_start n (suc k) = row_start n k + (n - suc k)
-
 -- the weights of the pairs of vertices from k on
 abbrev pub weights_from : Graph → ℕ → List ℤ
 weights_from g k = drop (row_start g.vertices k) g.weights
@@ -45,10 +36,6 @@ weights_from g k = drop (row_start g.vertices k) g.weights
 -- the weights of the pairs of k and each later vertex
 abbrev pub row_of : Graph → ℕ → List ℤ
 row_of g k = take (g.vertices - (k + 1)) (weights_from g k)
-
--- the weight of the pair of j and a later vertex l
-abbrev pub weight_at : Graph → ℕ → ℕ → ℤ
-weight_at g j l = slice_index_or g.weights (row_start g.vertices j + (l - (j + 1))) (pos 0)
 
 -- the sum of the negative numbers of a list
 abbrev pub negatives_of : List ℤ → ℤ

@@ -5,7 +5,7 @@ use Rattle.benefit_rows.specs.Benefits.{above_zero, below_zero, size_of}
 use Rattle.dp_model.specs.Dp.{Dp}
 use Rattle.pair_rows.specs.declared.values.PairValues.{PairValues}
 use Rattle.pair_rows.specs.Instance.{Instance, no_unit}
-use Rattle.pair_rows.specs.Program.{program_of as program_of_rows}
+use Rattle.pair_rows.specs.Program.{program_of}
 use Rattle.max_cut.specs.Graph.{Graph, instance_of, negatives_of}
 
 -- this many zeros
@@ -20,9 +20,10 @@ pair_values w = record { no_no = below_zero w; no_yes = above_zero w; yes_no = a
 abbrev pub rows_in : Graph → Instance
 rows_in g = record { constant = negatives_of g.weights; first = 1; units = replicate g.vertices no_unit; pairs = map pair_values g.weights }
 
-abbrev pub program_of : Graph → Dp
-program_of g = program_of_rows (rows_in g)
+-- what the numbers of an instance list
+abbrev pub listed : List ℤ → Instance
+listed numbers = rows_in (instance_of numbers)
 
--- the program that the numbers of an instance spell
+-- the program that they spell
 abbrev pub program : List ℤ → Dp
-program numbers = program_of (instance_of numbers)
+program numbers = program_of (listed numbers)

@@ -3,28 +3,17 @@
 ghost use Rattle.std.specs.Prelude.{◌≡◌, ◌≢◌, ◌<◌, ◌≤◌, pos, ◌+ℤ◌, int_le, false, OnOk, IfOk, MatchOption};
 ghost use Rattle.benefit_rows.specs.Benefits.{size_of};
 ghost use Rattle.tokens.specs.Grammar.{Reads, times};
-ghost use Rattle.max_cut.specs.Graph.{IsGraph, IsWeight, pairs_of};
+ghost use Rattle.pair_rows.specs.Pairs.{pair_count};
+ghost use Rattle.max_cut.specs.Graph.{IsGraph, IsWeight};
 ghost use Rattle.max_cut.specs.Program.{zeros};
 ghost use Rattle.max_cut.specs.Edges.{edge_at, place_among, vertex_at, with_edge};
 
-use crate::layers::place_of_pair;
 use benefit_rows::size;
+use pair_problem::{count_of_pairs, place_of_pair};
 use std::alloc::Global;
 use tokens::{InstanceError, InstanceFault, Place, ReadModelError, TextError, Tokens};
 
 const GREATEST_WEIGHT: i64 = 500_000_000;
-
-/// How many pairs this many vertices make.
-pub(crate) fn count_of_pairs(vertices: usize) -> usize
-    requires { vertices ≤ 1024 }
-    ensures { result ≡ pairs_of vertices }
-{
-    if vertices == 0 {
-        0
-    } else {
-        vertices * (vertices - 1) / 2
-    }
-}
 
 /// Reads this many edges, and adds up the weights of each pair.
 pub(crate) fn read_totals(
@@ -34,7 +23,7 @@ pub(crate) fn read_totals(
     edges: usize,
 ) -> Result<Vec<i64>, ReadModelError>
     requires { vertices ≤ 1024 }
-    ensures read { Reads (λ v. (v.items, tokens.new)) result (times (edge_at vertices) edges (zeros (pairs_of vertices)) tokens.old) }
+    ensures read { Reads (λ v. (v.items, tokens.new)) result (times (edge_at vertices) edges (zeros (pair_count vertices)) tokens.old) }
     ensures graph { IfOk result (λ v. IsGraph (record { vertices = vertices; weights = v.items })) }
 {
     let mut totals = vec![in alloc; 0i64; count_of_pairs(vertices)]?;
@@ -146,7 +135,7 @@ fn place_of_two(vertices: usize, i: usize, j: usize) -> usize
     requires second { j < vertices }
     requires different { i ≢ j }
     ensures place { result ≡ place_among vertices i j }
-    ensures within { result < pairs_of vertices }
+    ensures within { result < pair_count vertices }
 {
     if i < j {
         place_of_pair(vertices, i, j)

@@ -5,9 +5,9 @@ ghost use Rattle.max_cut.specs.Graph.{IsWeight};
 ghost use Rattle.max_cut.specs.Generating.{weight_drawn, after_weight, generated};
 ghost use Rattle.max_cut.specs.Shown.{instance_in};
 
-use crate::edges::count_of_pairs;
 use crate::instance::MaxCut;
 use draws::Draws;
+use pair_problem::count_of_pairs;
 use std::alloc::{AllocError, Global};
 
 /// Draws the weight of a pair: one draw in four makes an edge, whose weight is from -10 to 10, and without an edge it is 0.
@@ -37,5 +37,5 @@ pub fn generate(alloc: Global, n: u32, seed: u32) -> Result<MaxCut, AllocError>
     for _ in 0..pairs {
         weights.push(draw_weight(&mut draws))?;
     }
-    MaxCut::prepared(alloc, vertices, weights)
+    Ok(MaxCut { vertices, weights })
 }

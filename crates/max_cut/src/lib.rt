@@ -1,10 +1,10 @@
 //! Maximum cut: the vertices of a graph are put on two sides, S and T, so that the edges across weigh as
 //! much as can be. Vertex 0 is on S.
 //!
-//! `MaxCut` is such an instance, as a dynamic program of `dp_model` that meets its laws: layer `k` puts
-//! vertex `k` on a side, and a state has the net benefit of T for each later vertex, as `pair_rows` keeps
-//! it. `read` and `print` are its text, by `tokens`, and `value_of` weighs a cut in the
-//! problem's own words.
+//! `MaxCut` is such an instance, and `PairModel<MaxCut>` is its dynamic program, which meets the laws: layer
+//! `k` puts vertex `k` on a side, and a state has the net benefit of T for each later vertex, as `pair_rows`
+//! keeps it. `read` and `print` are its text, by `tokens`, and `value_of` weighs a cut in the problem's own
+//! words.
 //!
 //! Promised, each in the contract of its call: the instance that a text spells, or its first fault with
 //! its place; the canonical text, which reads as the instance; the weight across, or none exactly where
@@ -12,18 +12,16 @@
 //! Only want of memory has no stated cause.
 //!
 //! ```
-//! let model = read(alloc, b"3 2\n1 2 5\n2 3 -4\n")?;
-//! let text = print(alloc, &model)?;
+//! let model = PairModel::<MaxCut>::read(alloc, b"3 2\n1 2 5\n2 3 -4\n")?;
+//! let value = PairModel::value_of(&model, &[0, 1, 1]); // Some(5)
 //! ```
 #![tactic(auto)]
 
 mod edges;
 mod generating;
 mod instance;
-mod layers;
 mod lines;
 mod listing;
-mod model;
 mod printing;
 mod problem;
 mod reading;

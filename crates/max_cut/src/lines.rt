@@ -4,7 +4,7 @@ ghost use Rattle.std.specs.Prelude.{◌≡◌, ◌+◌, ◌<◌, ◌≤◌, ◌+
 ghost use Rattle.max_cut.specs.Graph.{IsGraph};
 ghost use Rattle.max_cut.specs.EdgeLines.{edge_line, edges_in, ended, is_none, lines_from, row_lines, spaced};
 
-use crate::layers::row_of_pairs;
+use pair_rows::row_of;
 use std::alloc::AllocError;
 use tokens::{push_number, push_text};
 
@@ -30,7 +30,7 @@ pub(crate) fn push_lines(
     ensures { OnOk result (out.new.items ≡ out.old.items ++ lines_from (record { vertices = vertices; weights = weights.now }) 0 vertices) }
 {
     for k in 0..vertices {
-        push_row(out, k, row_of_pairs(vertices, weights, k))?;
+        push_row(out, k, row_of(weights, vertices, k))?;
     }
     Ok(())
 }

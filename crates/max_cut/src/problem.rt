@@ -1,32 +1,47 @@
-use crate::MaxCut;
+use crate::instance::MaxCut;
 use dp_model::OutOfMemory;
-use problem_theory::{Problem, ReadInstanceError, of_text};
+use pair_problem::PairProblem;
+use pair_rows::PairRows;
+use problem_theory::{ReadInstanceError, of_text};
 use std::alloc::Global;
 
 #[tactic(auto, using(problem_theory::proofs::Readings::reads_numbers, problem_theory::proofs::Readings::drawn_numbers, problem_theory::proofs::Readings::spelled_numbers))]
-impl Problem for MaxCut {
+impl PairProblem for MaxCut {
     ghost use Rattle.std.specs.Prelude.{refl};
-    ghost use Rattle.max_cut.specs.Theory.{cut_theory, cut_agrees};
+    ghost use Rattle.max_cut.specs.Graph.{numbers_of};
+    ghost use Rattle.max_cut.specs.Program.{listed};
+    ghost use Rattle.max_cut.specs.Shown.{instance_in};
+    ghost use Rattle.max_cut.specs.Theory.{cut_theory, cut_kept, cut_agrees};
+
+    ghost numbers = { λ m. numbers_of (instance_in m) };
+
+    ghost listed = { listed };
 
     ghost theory = { cut_theory };
 
+    ghost kept = { λ m. cut_kept (instance_in m) m.graph };
+
     ghost same_program = { λ _. refl };
 
-    ghost agrees = { λ m. cut_agrees (record { vertices = m.vertices; weights = m.weights.items }) m.graph };
+    ghost agrees = { λ m. cut_agrees (instance_in m) m.graph };
+
+    fn rows(alloc: Global, problem: &MaxCut) -> Result<PairRows, OutOfMemory> {
+        crate::listing::rows_of(alloc, problem)
+    }
 
     fn read(alloc: Global, bytes: &[u8]) -> Result<MaxCut, ReadInstanceError> {
         of_text(crate::read(alloc, bytes))
     }
 
-    fn print(alloc: Global, model: &MaxCut) -> Result<Vec<u8>, OutOfMemory> {
-        crate::print(alloc, model)
+    fn print(alloc: Global, problem: &MaxCut) -> Result<Vec<u8>, OutOfMemory> {
+        crate::print(alloc, problem)
     }
 
-    fn value_of(model: &MaxCut, decisions: &[u32]) -> Option<i64> {
-        crate::value_of(model, decisions)
+    fn value_of(problem: &MaxCut, decisions: &[u32]) -> Option<i64> {
+        crate::value_of(problem, decisions)
     }
 
-    fn generate(alloc: Global, n: u32, seed: u32) -> Result<Option<MaxCut>, OutOfMemory> {
-        Ok(Some(crate::generate(alloc, n, seed)?))
+    fn generate(alloc: Global, n: u32, seed: u32) -> Result<MaxCut, OutOfMemory> {
+        crate::generate(alloc, n, seed)
     }
 }

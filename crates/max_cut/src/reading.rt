@@ -28,7 +28,7 @@ pub fn read(alloc: Global, bytes: &[u8]) -> Result<MaxCut, ReadModelError>
     let mut tokens = Tokens::new(bytes, Comment::Never);
     let vertices = tokens.next_number(0, MOST_VERTICES)? as usize;
     let edges = tokens.next_number(0, MOST_EDGES)? as usize;
-    let totals = read_totals(alloc, &mut tokens, vertices, edges)?;
+    let weights = read_totals(alloc, &mut tokens, vertices, edges)?;
     tokens.finish()?;
-    Ok(MaxCut::prepared(alloc, vertices, totals)?)
+    Ok(MaxCut { vertices, weights })
 }

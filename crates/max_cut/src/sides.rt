@@ -1,12 +1,10 @@
 //! The sides of vertices, and the weight between them.
 
-ghost use Rattle.std.specs.Prelude.{◌≡◌, ◌^◌, ◌≤ℤ◌, ◌==◌, if◌then◌else◌, [], length, nat_lt, pos};
+ghost use Rattle.std.specs.Prelude.{◌≡◌, ◌^◌, ◌≤◌, ◌≤ℤ◌, ◌==◌, if◌then◌else◌, [], drop, length, nat_lt, pos};
 ghost use Rattle.std.specs.List.{list_all};
 ghost use Rattle.benefit_rows.specs.Benefits.{rank_of};
 ghost use Rattle.max_cut.specs.Cuts.{across_from, begins_on_S, is_cut, weight_across};
-ghost use Rattle.max_cut.specs.Graph.{pairs_of};
-
-use crate::layers::tail;
+ghost use Rattle.pair_rows.specs.Pairs.{pair_count};
 
 /// Whether there is a side for each vertex, with vertex 0 on S.
 pub(crate) fn are_sides(vertices: usize, sides: &[u32]) -> bool
@@ -34,7 +32,7 @@ fn are_two(sides: &[u32]) -> bool
 
 /// The weight of the pairs on different sides.
 pub(crate) fn weight_of_cut(weights: &[i64], sides: &[u32]) -> i64
-    requires pairs { length weights.now ≡ pairs_of (length sides.now) }
+    requires pairs { length weights.now ≡ pair_count (length sides.now) }
     requires sizes { rank_of weights.now ≤ℤ pos (2 ^ 50) }
     ensures { result ≡ weight_across weights.now sides.now }
 {
@@ -67,4 +65,12 @@ fn weight_between(side: u32, other: u32, weight: i64) -> i64
     ensures { result ≡ (if side == other then pos 0 else weight) }
 {
     if side == other { 0 } else { weight }
+}
+
+/// The sides from a vertex on.
+fn tail(sides: &[u32], from: usize) -> &[u32]
+    requires { from ≤ length sides.now }
+    ensures { result.now ≡ drop from sides.now }
+{
+    &sides[from..]
 }

@@ -3,7 +3,9 @@
 ghost use Rattle.std.specs.Prelude.{◌≡◌};
 ghost use Rattle.dp_model.specs.Solution.{SolutionGives};
 ghost use Rattle.max_cut.specs.Cuts.{cut_value};
-ghost use Rattle.max_cut.specs.Shown.{instance_in, program_in};
+ghost use Rattle.pair_rows.specs.Program.{program_of};
+ghost use Rattle.max_cut.specs.Program.{rows_in};
+ghost use Rattle.max_cut.specs.Shown.{instance_in};
 
 use crate::instance::MaxCut;
 use crate::sides::{are_sides, weight_of_cut};
@@ -13,7 +15,7 @@ use crate::sides::{are_sides, weight_of_cut};
 /// solutions of the program, with this value.
 pub fn value_of(model: &MaxCut, decisions: &[u32]) -> Option<i64>
     ensures own_words { result ≡ cut_value (instance_in model.now) decisions.now }
-    ensures solution { SolutionGives (program_in model.now) decisions.now result }
+    ensures solution { SolutionGives (program_of (rows_in (instance_in model.now))) decisions.now result }
 {
     cut_weight(model, decisions)
 }

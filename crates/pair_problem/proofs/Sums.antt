@@ -5,8 +5,6 @@ use Rattle.pair_rows.specs.Instance.{Instance, no_unit, no_pair}
 use Rattle.pair_rows.specs.Limits.{IsInstance}
 use Rattle.pair_rows.proofs.Cells.{pair_most-at, unit_most-at}
 use Rattle.pair_rows.proofs.Layers.{units-most, pairs-most}
-use Rattle.pair_problem.specs.Adding.{place_of}
-use Rattle.pair_problem.specs.Laws.Adding.{place-within}
 
 pub sum-read : (a b : ℤ) → pos 0 ≤ℤ a → a ≤ℤ pos (2 ^ 48) → pos 0 ≤ℤ b → b ≤ℤ pos (2 ^ 48) →
     to_z w64 (of_z w64 (to_z w64 (of_z w64 a) +ℤ to_z w64 (of_z w64 b))) ≡ a +ℤ b
@@ -17,9 +15,6 @@ sum-read a b a_low a_high b_low b_high =
 
 pub unit-small : (i : Instance) (a : ℕ) → IsInstance i → a < length i.units → (get_or i.units a no_unit).most ≤ℤ pos (2 ^ 48)
 unit-small i a kept h = omega (arith, ints, unit_most-at i.units a no_unit h kept.units, units-most i kept)
-
-pub pair-inside : (i : Instance) (a b : ℕ) → IsInstance i → a < b → b < length i.units → place_of (length i.units) a b < length i.pairs
-pair-inside i a b kept order h = omega (arith, kept.whole, place-within (length i.units) a b order h)
 
 pub pair-small : (i : Instance) (at : ℕ) → IsInstance i → at < length i.pairs → (get_or i.pairs at no_pair).most ≤ℤ pos (2 ^ 48)
 pair-small i at kept h = omega (arith, ints, pair_most-at i.pairs at no_pair h kept.pairs, pairs-most i kept)

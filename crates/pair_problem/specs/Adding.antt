@@ -1,5 +1,7 @@
 -- Variables and pairs to which more is added, entry by entry.
-use Rattle.std.specs.Prelude.{ℕ, suc, ◌+◌, ◌-◌, ℤ, pos, ◌+ℤ◌, length, replicate, slice_index_or, slice_set}
+use Rattle.std.specs.Prelude.{ℕ, ◌+◌, ◌-◌, ◌==◌, ◌&&◌, ℤ, pos, ◌+ℤ◌, length, replicate, slice_index_or, slice_set, if◌then◌else◌}
+use Rattle.std.specs.Int.{int_min}
+use Rattle.benefit_rows.specs.Benefits.{above_zero, below_zero, size_of}
 use Rattle.pair_rows.specs.declared.values.UnitValues.{UnitValues}
 use Rattle.pair_rows.specs.declared.values.PairValues.{PairValues}
 use Rattle.pair_rows.specs.Pairs.{entries_before, pair_count}
@@ -27,10 +29,27 @@ with_unit i a u = record { constant = i.constant; first = i.first; units = slice
 
 -- where the entry of variables a < b stands
 abbrev pub place_of : ℕ → ℕ → ℕ → ℕ
-place_of n a b = entries_before n a + (b - suc a)
+place_of n a b = entries_before n a + (b - (a + 1))
 
 -- with what two variables a < b give
 abbrev pub with_pair : Instance → ℕ → ℕ → PairValues → Instance
 with_pair i a b p =
     let place = place_of (length i.units) a b in
     record { constant = i.constant; first = i.first; units = i.units; pairs = slice_set i.pairs place (pair_sum (slice_index_or i.pairs place no_pair) p) }
+
+-- what a weight gives beyond its negative part, where it counts only with 1: of one variable, and of two
+abbrev pub unit_weight : ℤ → UnitValues
+unit_weight w = record { if_no = below_zero w; if_yes = above_zero w; most = size_of w }
+
+abbrev pub pair_weight : ℤ → PairValues
+pair_weight w = record { no_no = below_zero w; no_yes = below_zero w; yes_no = below_zero w; yes_yes = above_zero w; most = size_of w }
+
+-- with a weight that counts where the variables a ≤ b are 1; where it is negative it is given in any case, and what it spares is given where it does not count
+abbrev pub with_product : Instance → ℕ → ℕ → ℤ → Instance
+with_product i a b w =
+    let more = with_constant i (int_min w (pos 0)) in
+    if a == b then with_unit more a (unit_weight w) else with_pair more a b (pair_weight w)
+
+-- what it adds
+abbrev pub product_value : ℕ → ℕ → ℤ → ℤ
+product_value x y w = if x == 1 && y == 1 then w else pos 0

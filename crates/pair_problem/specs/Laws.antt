@@ -1,3 +1,4 @@
 -- What proofs cite and no clause.
 pub mod Adding
 pub mod Kept
+pub mod Products

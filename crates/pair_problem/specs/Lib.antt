@@ -1,3 +1,4 @@
 pub mod Adding
+pub mod Room
 -- what proofs cite and no clause
 pub mod Laws

@@ -1,12 +1,16 @@
 //! Instances that are made entry by entry.
 
-ghost use Rattle.std.specs.Prelude.{◌≡◌, ◌^◌, ◌<◌, ◌≤◌, pos, ◌≤ℤ◌, length, IfOk};
+ghost use Rattle.std.specs.Prelude.{◌≡◌, ◌^◌, ◌<◌, ◌≤◌, pos, neg_ℤ, ◌+ℤ◌, ◌≤ℤ◌, length, IfOk};
+ghost use Rattle.std.specs.Int.{int_min};
+ghost use Rattle.benefit_rows.specs.Benefits.{size_of};
 ghost use Rattle.pair_rows.specs.Limits.{IsInstance, UnitFits, PairFits};
-ghost use Rattle.pair_rows.specs.Pairs.{pair_count};
 ghost use Rattle.pair_rows.specs.Shown.{instance_of};
-ghost use Rattle.pair_problem.specs.Adding.{unit_sum, pair_sum, nothing_of, place_of, with_unit, with_pair};
+ghost use Rattle.pair_problem.specs.Adding.{unit_sum, pair_sum, nothing_of, with_unit, with_pair, with_product, unit_weight, pair_weight};
+ghost use Rattle.pair_problem.specs.Room.{HasRoom};
 
-use pair_rows::{PairInstance, PairValues, UnitValues, start_of_row};
+use crate::places::{count_of_pairs, place_of_pair};
+use benefit_rows::{above_zero, below_zero, size};
+use pair_rows::{PairInstance, PairValues, UnitValues};
 use std::alloc::{AllocError, Global};
 
 /// This many variables of two values, at most 1,024, that give nothing. Fails only for want of memory.
@@ -22,14 +26,6 @@ pub fn nothing_of(alloc: Global, variables: usize) -> Result<PairInstance, Alloc
         units,
         pairs,
     })
-}
-
-/// How many pairs this many variables make.
-fn count_of_pairs(variables: usize) -> usize
-    requires { variables ≤ 1024 }
-    ensures { result ≡ pair_count variables }
-{
-    start_of_row(variables, variables)
 }
 
 /// Adds what variable `a` gives.
@@ -53,20 +49,58 @@ pub fn add_pair(list: &mut PairInstance, a: usize, b: usize, pair: PairValues)
     requires small { pair.most ≤ℤ pos (2 ^ 48) }
     ensures { instance_of list.new ≡ with_pair (instance_of list.old) a b pair }
 {
-    let at = place_of(list, a, b);
+    let at = place_of_pair(list.units.len(), a, b);
     let sum = pair_sum(list.pairs[at], pair);
     list.pairs[at] = sum;
 }
 
-/// Where the entry of two variables stands.
-fn place_of(list: &PairInstance, a: usize, b: usize) -> usize
-    requires kept { IsInstance (instance_of list.now) }
-    requires order { a < b }
-    requires variable { b < length (instance_of list.now).units }
-    ensures place { result ≡ place_of (length (instance_of list.now).units) a b }
-    ensures inside { result < length (instance_of list.now).pairs }
+/// Adds a weight that counts where the variables `a` and `b` are 1. They may be the same, and `b` is not before `a`.
+pub fn add_product(list: &mut PairInstance, a: usize, b: usize, weight: i64)
+    requires { HasRoom (instance_of list.old) a b weight }
+    ensures { instance_of list.new ≡ with_product (instance_of list.old) a b weight }
 {
-    start_of_row(list.units.len(), a) + (b - a - 1)
+    list.constant = with_weight(list.constant, weight);
+    if a == b {
+        add_unit(list, a, unit_weight(weight));
+    } else {
+        add_pair(list, a, b, pair_weight(weight));
+    }
+}
+
+/// A constant with a weight more, if that is negative.
+fn with_weight(constant: i64, weight: i64) -> i64
+    requires small { size_of weight ≤ℤ pos (2 ^ 48) }
+    requires low { (neg_ℤ (pos (2 ^ 48)) +ℤ size_of weight) ≤ℤ constant }
+    requires high { constant ≤ℤ pos (2 ^ 48) }
+    ensures { result ≡ constant +ℤ int_min weight (pos 0) }
+{
+    constant + weight.min(0)
+}
+
+/// What a weight gives beyond its negative part, by one variable.
+fn unit_weight(weight: i64) -> UnitValues
+    requires { size_of weight ≤ℤ pos (2 ^ 50) }
+    ensures { result ≡ unit_weight weight }
+{
+    UnitValues {
+        if_no: below_zero(weight),
+        if_yes: above_zero(weight),
+        most: size(weight),
+    }
+}
+
+/// What a weight gives beyond its negative part, by two variables.
+fn pair_weight(weight: i64) -> PairValues
+    requires { size_of weight ≤ℤ pos (2 ^ 50) }
+    ensures { result ≡ pair_weight weight }
+{
+    PairValues {
+        no_no: below_zero(weight),
+        no_yes: below_zero(weight),
+        yes_no: below_zero(weight),
+        yes_yes: above_zero(weight),
+        most: size(weight),
+    }
 }
 
 /// What two entries of one variable give together.

@@ -11,7 +11,7 @@ use Rattle.qubo.specs.Quadratic.{is_line}
 use Rattle.qubo.specs.OwnWords.{is_one, line_value, lines_value}
 use Rattle.qubo.specs.Printing.{line_text}
 use Rattle.qubo.specs.Program.{with_line}
-use Rattle.qubo.specs.Room.{IsLine}
+use Rattle.qubo.specs.Lines.{IsLine}
 use Rattle.pair_problem.specs.Adding.{nothing_of}
 use Rattle.qubo.specs.Laws.Listing.{is_line-is, Lists, lists-none, lists-more}
 

@@ -14,7 +14,7 @@ use Rattle.tokens.proofs.Printing.{before_start, passes_natural, passes_number, 
 use Rattle.tokens.proofs.Repeats.{fold_pushes, times_reads}
 use Rattle.qubo.specs.declared.line.Line.{Line}
 use Rattle.qubo.specs.Quadratic.{Quadratic, IsQuadratic, is_line}
-use Rattle.qubo.specs.Room.{IsLine}
+use Rattle.qubo.specs.Lines.{IsLine}
 use Rattle.qubo.specs.Laws.Listing.{is_line-is}
 use Rattle.qubo.specs.Reading.{line_after, instance_at, instance_text}
 use Rattle.qubo.specs.Printing.{line_text, text_of}

@@ -6,7 +6,7 @@ use Rattle.std.proofs.lemmas.Fmt.{length-decimal-le}
 use Rattle.tokens.proofs.Lengths.{number_short, parts_short}
 use Rattle.qubo.specs.declared.line.Line.{Line}
 use Rattle.qubo.specs.Quadratic.{Quadratic, IsQuadratic, is_line}
-use Rattle.qubo.specs.Room.{IsLine}
+use Rattle.qubo.specs.Lines.{IsLine}
 use Rattle.qubo.specs.Laws.Listing.{is_line-is}
 use Rattle.qubo.specs.Printing.{line_text, text_of}
 use Rattle.qubo.proofs.RoundTrip.{weight-short}

@@ -4,7 +4,7 @@ pub mod Program
 pub mod Reading
 pub mod Printing
 pub mod Generating
-pub mod Room
+pub mod Lines
 pub mod Shown
 -- what an `impl` cites and no clause
 pub mod Laws

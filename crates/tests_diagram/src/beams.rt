@@ -10,6 +10,7 @@ use exact_cutset::Children;
 use knapsack::Knapsack;
 use layer_build::{PrepareError, Workspace, greatest_width};
 use max_cut::MaxCut;
+use pair_problem::PairModel;
 use restricted_dd::restricted;
 use std::alloc::Global;
 use std::process::Abort;
@@ -54,9 +55,9 @@ fn knapsacks_have_their_beams(rt: HostRuntime) {
 
 #[test]
 fn wide_beams_are_best(rt: HostRuntime) {
-    let model: MaxCut = instance(&rt, rt.alloc(), b"3 3\n1 2 3\n2 3 1\n1 3 2\n");
+    let model: PairModel<MaxCut> = instance(&rt, rt.alloc(), b"3 3\n1 2 3\n2 3 1\n1 3 2\n");
     has_beam(&rt, rt.alloc(), &model, (8, None, Some((5, &[0, 1, 1]))));
-    let model: MaxCut = instance(&rt, rt.alloc(), b"4 4\n1 2 -2\n1 4 7\n2 3 4\n3 4 -4\n");
+    let model: PairModel<MaxCut> = instance(&rt, rt.alloc(), b"4 4\n1 2 -2\n1 4 7\n2 3 4\n3 4 -4\n");
     has_beam(
         &rt,
         rt.alloc(),

@@ -2,7 +2,7 @@
 //! that they leave, how many rows are held while one is made, what is kept of a layer that is reduced to its first nodes, and
 //! diagrams in parts.
 //!
-//! It stands on `problem_theory`, `knapsack`, `max_cut`, `layer_build`, `wide_layers`, `restricted_dd`, `relaxed_dd` and `exact_cutset`.
+//! It stands on `problem_theory`, `knapsack`, `max_cut`, `pair_problem`, `layer_build`, `wide_layers`, `restricted_dd`, `relaxed_dd` and `exact_cutset`.
 #![tactic(auto)]
 
 #[cfg(test)]

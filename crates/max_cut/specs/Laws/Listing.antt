@@ -8,13 +8,13 @@ use Rattle.std.proofs.lemmas.List.{length-map, length-replicate, length-take-le,
 use Rattle.std.proofs.lemmas.Bool.{and_parts, and_from}
 use Rattle.std.proofs.lemmas.Bool.Decides.{nat_tests}
 use Rattle.benefit_rows.specs.Benefits.{above_zero, below_zero, size_of, rank_of}
-use Rattle.pair_rows.specs.Pairs.{rows_of}
+use Rattle.pair_rows.specs.Pairs.{rows_of, pair_count}
 use Rattle.pair_rows.specs.Instance.{no_unit, units_most, pairs_most}
 use Rattle.pair_rows.specs.Limits.{IsInstance, is_up_to, pair_fits, units_fit, pairs_fit}
 use Rattle.pair_rows.specs.Laws.Limits.{is-up_to}
 use Rattle.pair_rows.specs.OwnWords as plain
-use Rattle.max_cut.specs.Graph.{Graph, IsGraph, negatives_of, pairs_of}
-use Rattle.max_cut.specs.Laws.Graph.{negatives_of-bounds, pairs_of-same, rank_of-most}
+use Rattle.max_cut.specs.Graph.{Graph, IsGraph, negatives_of}
+use Rattle.max_cut.specs.Laws.Graph.{negatives_of-bounds, rank_of-most}
 use Rattle.max_cut.specs.Program.{pair_values, rows_in}
 use Rattle.max_cut.specs.Cuts.{across_from, weight_across, begins_on_S, is_cut}
 
@@ -50,7 +50,7 @@ rows-kept g h =
     let long = length-replicate g.vertices no_unit in
     record {
       variables = omega (arith, h.few);
-      whole = rw long (length-map g.weights pair_values ∙ (h.whole ∙ pairs_of-same g.vertices));
+      whole = rw long (length-map g.weights pair_values ∙ h.whole);
       first_some = omega arith;
       first_few = omega arith;
       units = units-in_range g.vertices;
@@ -90,7 +90,7 @@ negatives_of-append : (ws more : List ℤ) → negatives_of (ws ++ more) ≡ neg
 negatives_of-append [] more = omega (arith, ints)
 negatives_of-append (w ∷ ws) more = omega (arith, ints, negatives_of-append ws more)
 
-rows-across : (ws : List ℤ) (ds : List ℕ) → are_sides ds ≡ true → length ws ≡ pairs_of (length ds) → negatives_of ws +ℤ plain.rows_value (rows_of (length ds) (map pair_values ws)) ds ≡ weight_across ws ds
+rows-across : (ws : List ℤ) (ds : List ℕ) → are_sides ds ≡ true → length ws ≡ pair_count (length ds) → negatives_of ws +ℤ plain.rows_value (rows_of (length ds) (map pair_values ws)) ds ≡ weight_across ws ds
 rows-across [] [] sides whole = refl
 rows-across (w ∷ ws) [] sides whole = absurd (omega arith)
 rows-across ws (d ∷ ds) sides whole =
@@ -142,7 +142,7 @@ cut_parts g x h =
 pub weight-same : (g : Graph) → IsGraph g → (x : List ℕ) → is_cut g x ≡ true → weight_across g.weights x ≡ plain.value_of_all (rows_in g) x
 weight-same g h x cut =
     let parts = cut_parts g x cut in
-    let across = rows-across g.weights x parts.1 (h.whole ∙ ap pairs_of (sym parts.0)) in
+    let across = rows-across g.weights x parts.1 (h.whole ∙ ap pair_count (sym parts.0)) in
     let rows : plain.rows_value (rows_of (length (replicate g.vertices no_unit)) (map pair_values g.weights)) x ≡ plain.rows_value (rows_of (length x) (map pair_values g.weights)) x =
     ap (λ n. plain.rows_value (rows_of n (map pair_values g.weights)) x) (length-replicate g.vertices no_unit ∙ sym parts.0) in
     omega (arith, ints, units-none g.vertices x)

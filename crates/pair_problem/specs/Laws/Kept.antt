@@ -6,16 +6,13 @@ use Rattle.std.proofs.lemmas.List.{length-set, length-replicate}
 use Rattle.pair_rows.specs.declared.values.UnitValues.{UnitValues}
 use Rattle.pair_rows.specs.declared.values.PairValues.{PairValues}
 use Rattle.pair_rows.specs.Pairs.{rows_of, pair_count}
-use Rattle.pair_rows.specs.Instance.{Instance, unit_most, pair_most, units_most, pairs_most, no_unit, no_pair}
+use Rattle.pair_rows.specs.Instance.{Instance, unit_most, pair_most, no_unit, no_pair}
 use Rattle.pair_rows.specs.Limits.{IsInstance, unit_fits, pair_fits}
 use Rattle.pair_rows.specs.Laws.Pairs.{all-at}
 use Rattle.pair_rows.specs.OwnWords.{unit_value, pair_value, rows_value, value_of_all}
+use Rattle.pair_problem.specs.Room.{most_of}
 use Rattle.pair_problem.specs.Adding.{unit_sum, pair_sum, nothing_of, place_of, with_constant, with_unit, with_pair}
 use Rattle.pair_problem.specs.Laws.Adding.{all-set, all-replicate, total_by-set, total_by-replicate, unit_sum-fits, pair_sum-fits, units_value-set, rows_value-set, units_value-none, rows_value-none, place-within}
-
--- what all entries give at most
-abbrev pub most_of : Instance → ℤ
-most_of i = units_most i.units +ℤ pairs_most i.pairs
 
 pub most_of-nothing : (n : ℕ) → most_of (nothing_of n) ≡ pos 0
 most_of-nothing n = omega (arith, ints, total_by-replicate unit_most n no_unit refl, total_by-replicate pair_most (pair_count n) no_pair refl)

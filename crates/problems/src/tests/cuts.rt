@@ -1,5 +1,6 @@
 use super::{Pair, Program, Refusal, Sample, is_program, refuses, spells};
 use max_cut::MaxCut;
+use pair_problem::PairModel;
 use tokens::InstanceFault;
 
 const SAMPLES: &[Sample] = &[
@@ -106,7 +107,7 @@ const PROGRAM: Program = Program {
 
 #[test]
 fn worked_texts(rt: HostRuntime) {
-    spells::<MaxCut>(&rt, rt.alloc(), SAMPLES);
-    refuses::<MaxCut>(&rt, rt.alloc(), REFUSALS);
-    is_program::<MaxCut>(&rt, rt.alloc(), &PROGRAM);
+    spells::<PairModel<MaxCut>>(&rt, rt.alloc(), SAMPLES);
+    refuses::<PairModel<MaxCut>>(&rt, rt.alloc(), REFUSALS);
+    is_program::<PairModel<MaxCut>>(&rt, rt.alloc(), &PROGRAM);
 }

@@ -11,5 +11,5 @@ loop-preserved c =
     one_more c.args.seed c.loop.counter c.loop.draws c.draw_weight.new.draws c.loop.weights.items c.push.new.self.items c.draw_weight.result c.loop.invariant
     weight.weight weight.following weight.small (search rules)
 
-pub prepared-requires : goal.prepared-requires
-prepared-requires c = record { few = c.requires.size; whole = omega arith; small = c.loop.invariant.small }
+pub invariant_of-result : goal.invariant_of-result
+invariant_of-result c = record { few = c.requires.size; whole = omega arith; small = c.loop.invariant.small }
