@@ -12,4 +12,4 @@ loop-preserved c =
     weight.weight weight.following weight.small (search rules)
 
 pub invariant_of-result : goal.invariant_of-result
-invariant_of-result c = record { few = c.requires.size; whole = omega arith; small = c.loop.invariant.small }
+invariant_of-result c = record { graph = record { few = c.requires.size; whole = omega arith; small = c.loop.invariant.small } }

@@ -8,8 +8,8 @@ use Rattle.max_cut.specs.Program.{rows_in}
 use Rattle.max_cut.specs.Shown.{instance_in}
 use Rattle.max_cut.proofs.listing.rows_of.Goals as goal
 
-pub listed-list-requires : goal.listed-list-requires
-listed-list-requires c = rw c.deref.ensures.value (omega (arith, ints, rank_of-most (instance_in c.args.model.now) c.args.model.now.graph))
+pub listed-requires : goal.listed-requires
+listed-requires c = rw c.deref.ensures.value (omega (arith, ints, rank_of-most (instance_in c.args.model.now) c.args.model.now.graph))
 
 pub prepared-requires : goal.prepared-requires
 prepared-requires c = subst (λ (i : Instance). IsInstance i) (sym (c.in_ok-list.ensures ∙ ap (λ (ws : List ℤ). rows_in (record { vertices = c.args.model.now.vertices; weights = ws })) c.deref.ensures.value)) (rows-kept (instance_in c.args.model.now) c.args.model.now.graph)

@@ -14,8 +14,8 @@ use Rattle.max_two_sat.proofs.listing.rows_of.Goals as goal
 read : (m : MaxTwoSat) → to_z w64 (of_z w64 m.tautologies) ≡ m.tautologies
 read m = omega (arith, ints, m.kept.tautologies, (parts-small (instance_in m) m.kept).tautologies)
 
-pub listed-list-requires : goal.listed-list-requires
-listed-list-requires c = rw (c.deref.ensures.value, c.deref-2.ensures.value, read c.args.model.now) c.args.model.now.kept
+pub listed-requires : goal.listed-requires
+listed-requires c = rw (c.deref.ensures.value, c.deref-2.ensures.value, read c.args.model.now) c.args.model.now.kept
 
 pub prepared-requires : goal.prepared-requires
 prepared-requires c =

@@ -24,4 +24,4 @@ read : (d : Draft) → IsGathered (gathered_in d) → d.clauses ≤ 2 ^ 20 → t
 read d gathered few = omega (arith, ints, gathered.tautologies, (parts-small (instance_gathered d) (within d gathered few)).tautologies)
 
 pub invariant_of-result : goal.invariant_of-result
-invariant_of-result c = rw (read c.args.draft c.requires.gathered c.requires.few) (within c.args.draft c.requires.gathered c.requires.few)
+invariant_of-result c = record { kept = rw (read c.args.draft c.requires.gathered c.requires.few) (within c.args.draft c.requires.gathered c.requires.few) }
