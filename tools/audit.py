@@ -20,7 +20,7 @@ MARKS = r"(?:(?:pub|abbrev|unfoldable|opaque|record|data)\s+)*"
 PROBLEMS = {
     "knapsack": ("knapsack/OwnWords packed_value", "knapsack/Program program_of", "knapsack/Reading instance_text"),
     "maximum cut": ("max_cut/Cuts cut_value", "max_cut/Program program", "max_cut/Edges instance_text"),
-    "MAX-2SAT": ("max_two_sat/OwnWords own_value", "max_two_sat/Program program_of", "max_two_sat/Texts instance_at"),
+    "MAX-2SAT": ("max_two_sat/OwnWords own_value", "max_two_sat/Program program", "max_two_sat/Texts instance_at"),
     "quadratic optimisation": ("qubo/OwnWords own_value", "qubo/Program program", "qubo/Reading instance_text"),
     "tours": ("tsp_windows/OwnWords tour_value", "tsp_windows/Program program_of", "tsp_windows/Texts spelled"),
     "jobs": ("one_machine/OwnWords order_value", "one_machine/Program program_of", "one_machine/Texts instance_at"),

@@ -19,17 +19,13 @@ use Rattle.max_two_sat.specs.declared.weights.UnitWeights.{UnitWeights}
 use Rattle.max_two_sat.specs.declared.weights.PairWeights.{PairWeights}
 use Rattle.max_two_sat.specs.Clauses.{FitsLiteral, FitsLiterals, Gathered, gathered_with, nothing_gathered, heavier_unit, heavier_pair, place_of_pair, same_sign, with_clause, with_two, with_pair, with_tautology, with_unit}
 use Rattle.max_two_sat.specs.Instance.{Instance, unit_total, pair_total, units_total, pairs_total, no_pair, no_unit}
-use Rattle.pair_rows.specs.Pairs.{pair_count, total_by, entries_before}
+use Rattle.pair_rows.specs.Pairs.{pair_count, total_by}
 use Rattle.max_two_sat.specs.Limits.{PairIsPositive, UnitIsPositive, pairs_are_positive, units_are_positive, pair_is_positive, unit_is_positive}
 use Rattle.max_two_sat.specs.Lines.{line_count, pair_weighing, unit_weighing, weighs}
 use Rattle.max_two_sat.specs.Room.{FormGives, FormKeeps, HasClauseRoom, IsGathered, IsGathering}
 use Rattle.pair_rows.specs.Laws.Pairs.{entries_before-more, entries_before-most}
 use Rattle.max_two_sat.specs.Laws.Totals.{units_total-positive, pairs_total-positive}
 use Rattle.max_two_sat.proofs.Entries.{pair-at, unit-at}
-
-pub entries_before-all : (n : ℕ) → entries_before n n ≡ pair_count n
-entries_before-all zero = refl
-entries_before-all (suc n) = ap (λ m. n + m) (entries_before-all n)
 
 -- the place of a pair
 pub place-inside : (n i j : ℕ) → i < j → j < n → place_of_pair n i j < pair_count n

@@ -1,5 +1,4 @@
 pub mod Entries
-pub mod Handing
 pub mod Weighing
 pub mod Gathering
 pub mod PrintedLines

@@ -22,7 +22,8 @@ use Rattle.max_two_sat.specs.Laws.Listing.{pairs-in_range, pairs-most, row-same,
 use Rattle.max_two_sat.specs.Laws.Solutions.{own_value-agrees}
 use Rattle.max_two_sat.specs.Laws.Totals.{units_total-positive, pairs_total-positive}
 use Rattle.max_two_sat.specs.OwnWords.{all_truth_values, own_value, weight_of, unit_value, pair_value, pair_left, units_value, row_value, rows_value}
-use Rattle.max_two_sat.specs.Program.{pair_values, program_of}
+use Rattle.pair_rows.specs.Program.{program_of}
+use Rattle.max_two_sat.specs.Program.{pair_values, rows_in}
 use Rattle.max_two_sat.proofs.Entries.{unit-at, pair-at}
 
 -- truth values
@@ -211,10 +212,10 @@ rows-bounds ps n xs whole positive =
 
 -- what value_of answers
 
-pub value-none : (i : Instance) (xs : List ℕ) (answer : Bool) → IsWithinLimits i → answer ≡ ((length xs == length i.units) && all_truth_values xs) → answer ≡ false → ¬ IsSolution (program_of i) xs
+pub value-none : (i : Instance) (xs : List ℕ) (answer : Bool) → IsWithinLimits i → answer ≡ ((length xs == length i.units) && all_truth_values xs) → answer ≡ false → ¬ IsSolution (program_of (rows_in i)) xs
 value-none i xs answer kept is no_assignment =
     let test : ((length xs == length i.units) && all_truth_values xs) ≡ false = sym is ∙ no_assignment in
-    subst (λ (b : Bool). SolutionGives (program_of i) xs (if b then Some (weight_of i xs) else None)) test (own_value-agrees i xs kept)
+    subst (λ (b : Bool). SolutionGives (program_of (rows_in i)) xs (if b then Some (weight_of i xs) else None)) test (own_value-agrees i xs kept)
 
 pub own-none : (i : Instance) (xs : List ℕ) (answer : Bool) → answer ≡ ((length xs == length i.units) && all_truth_values xs) → answer ≡ false → None ≡ own_value i xs
 own-none i xs answer is no_assignment =
@@ -227,7 +228,7 @@ assigned i xs answer is yes_assignment = eqb-true (length xs) (length i.units) (
 
 pub record ValueIs (i : Instance) (xs : List ℕ) (units_part pairs_part : ℤ) : Type 0 where
   pub value : Some (i.tautologies +ℤ (units_part +ℤ pairs_part)) ≡ own_value i xs
-  pub solution : IsSolutionWith (program_of i) xs (i.tautologies +ℤ (units_part +ℤ pairs_part))
+  pub solution : IsSolutionWith (program_of (rows_in i)) xs (i.tautologies +ℤ (units_part +ℤ pairs_part))
   pub parts_fit : FitsSigned w64 (to_z w64 (of_z w64 units_part) +ℤ to_z w64 (of_z w64 pairs_part))
   pub sum_fits : FitsSigned w64 (to_z w64 (of_z w64 i.tautologies) +ℤ to_z w64 (of_z w64 (to_z w64 (of_z w64 units_part) +ℤ to_z w64 (of_z w64 pairs_part))))
   pub read : to_z w64 (of_z w64 (to_z w64 (of_z w64 i.tautologies) +ℤ to_z w64 (of_z w64 (to_z w64 (of_z w64 units_part) +ℤ to_z w64 (of_z w64 pairs_part))))) ≡ i.tautologies +ℤ (units_part +ℤ pairs_part)
@@ -239,8 +240,8 @@ value-is i xs answer units_part pairs_part kept is yes_assignment units_is pairs
     let whole : length xs ≡ length i.units = assigned i xs answer is yes_assignment in
     let pairs : pairs_part ≡ rows_value (rows_of (length i.units) i.pairs) xs = pairs_is ∙ ap (λ n. rows_value (rows_of n i.pairs) xs) whole in
     let sum : i.tautologies +ℤ (units_part +ℤ pairs_part) ≡ weight_of i xs = omega (arith, ints) in
-    let agrees : IsSolutionWith (program_of i) xs (weight_of i xs) =
-    subst (λ (b : Bool). SolutionGives (program_of i) xs (if b then Some (weight_of i xs) else None)) test (own_value-agrees i xs kept) in
+    let agrees : IsSolutionWith (program_of (rows_in i)) xs (weight_of i xs) =
+    subst (λ (b : Bool). SolutionGives (program_of (rows_in i)) xs (if b then Some (weight_of i xs) else None)) test (own_value-agrees i xs kept) in
     let units_low = units_value-positive i.units xs kept.units in
     let units_high = units_value-most i.units xs kept.units in
     let pairs_bounds = rows-bounds i.pairs (length i.units) xs kept.whole kept.pairs in

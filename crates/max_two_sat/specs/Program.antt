@@ -1,14 +1,15 @@
 -- The dynamic program of an instance: that of its variables and pairs with what their clauses give. Layer k gives variable k its value, and
 -- a state has for each later variable the net benefit of making it true, among the clauses that are decided but for it.
-use Rattle.std.specs.Prelude.{map}
+use Rattle.std.specs.Prelude.{ℤ, List, map}
 use Rattle.dp_model.specs.Dp.{Dp}
 use Rattle.pair_rows.specs.declared.values.UnitValues.{UnitValues}
 use Rattle.pair_rows.specs.declared.values.PairValues.{PairValues}
 use Rattle.pair_rows.specs.Instance.{Instance as Rows}
-use Rattle.pair_rows.specs.Program.{program_of as program_of_rows}
+use Rattle.pair_rows.specs.Program.{program_of}
 use Rattle.max_two_sat.specs.declared.weights.UnitWeights.{UnitWeights}
 use Rattle.max_two_sat.specs.declared.weights.PairWeights.{PairWeights}
 use Rattle.max_two_sat.specs.Instance.{Instance, unit_total, pair_total}
+use Rattle.max_two_sat.specs.Numbers.{instance_of}
 use Rattle.max_two_sat.specs.OwnWords.{unit_value, pair_value}
 
 -- what the clauses of an entry give, by the values of its variables
@@ -22,5 +23,10 @@ pair_values p = record { no_no = pair_value p 0 0; no_yes = pair_value p 0 1; ye
 abbrev pub rows_in : Instance → Rows
 rows_in i = record { constant = i.tautologies; first = 2; units = map unit_values i.units; pairs = map pair_values i.pairs }
 
-abbrev pub program_of : Instance → Dp
-program_of i = program_of_rows (rows_in i)
+-- what the numbers of an instance list
+abbrev pub listed : List ℤ → Rows
+listed numbers = rows_in (instance_of numbers)
+
+-- the program that they spell
+abbrev pub program : List ℤ → Dp
+program numbers = program_of (listed numbers)

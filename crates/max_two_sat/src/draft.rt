@@ -1,14 +1,13 @@
 ghost use Rattle.std.specs.Prelude.{◌≡◌, ◌^◌, ◌+◌, ◌<◌, ◌≤◌, pos, ◌+ℤ◌, ◌≤ℤ◌, length, IfOk};
-ghost use Rattle.pair_rows.specs.Pairs.{pair_count};
 ghost use Rattle.max_two_sat.specs.Instance.{pair_total, unit_total};
 ghost use Rattle.max_two_sat.specs.Limits.{PairIsPositive, UnitIsPositive};
-ghost use Rattle.max_two_sat.specs.Clauses.{FitsLiteral, FitsLiterals, gathered_with, heavier_pair, heavier_unit, nothing_gathered, place_of_pair, same_sign, with_pair, with_two, with_unit};
+ghost use Rattle.max_two_sat.specs.Clauses.{FitsLiteral, FitsLiterals, gathered_with, heavier_pair, heavier_unit, nothing_gathered, same_sign, with_pair, with_two, with_unit};
 ghost use Rattle.max_two_sat.specs.Room.{HasClauseRoom};
 ghost use Rattle.max_two_sat.specs.Drafted.{gathered_in, instance_gathered};
 
 use crate::clause::{Literal, Literals};
 use crate::weights::{PairWeights, UnitWeights};
-use pair_rows::start_of_row;
+use pair_problem::{count_of_pairs, place_of_pair};
 use std::alloc::{AllocError, Global};
 
 /// An instance while its clauses are read.
@@ -30,7 +29,7 @@ impl Draft {
         ensures { IfOk result (λ d. gathered_in d ≡ nothing_gathered variables) }
     {
         let units = vec![in alloc; UnitWeights::NONE; variables]?;
-        let pairs = vec![in alloc; PairWeights::NONE; pairs_of(variables)]?;
+        let pairs = vec![in alloc; PairWeights::NONE; count_of_pairs(variables)]?;
         Ok(Draft {
             tautologies: 0,
             units,
@@ -98,20 +97,8 @@ impl Draft {
         ensures total { self.new.total ≡ self.old.total }
         ensures clauses { self.new.clauses ≡ self.old.clauses }
     {
-        let place = self.place_of_pair(a.variable, b.variable);
+        let place = place_of_pair(self.units.len(), a.variable, b.variable);
         self.pairs[place] = pair_with(self.pairs[place], a.positive, b.positive, weight);
-    }
-
-    /// Where the entry of the variables `i < j` stands.
-    fn place_of_pair(&self, i: usize, j: usize) -> usize
-        requires few { length self.now.units.items ≤ 1024 }
-        requires whole { length self.now.pairs.items ≡ pair_count (length self.now.units.items) }
-        requires lesser { i < j }
-        requires variable { j < length self.now.units.items }
-        ensures place { result ≡ place_of_pair (length self.now.units.items) i j }
-        ensures inside { result < length self.now.pairs.items }
-    {
-        start_of_row(self.units.len(), i) + (j - i - 1)
     }
 }
 
@@ -156,12 +143,4 @@ fn pair_with(pair: PairWeights, first: bool, second: bool, weight: i64) -> PairW
         (false, false) => heavier.neither += weight,
     }
     heavier
-}
-
-/// How many pairs this many variables have.
-fn pairs_of(variables: usize) -> usize
-    requires { variables ≤ 1024 }
-    ensures { result ≡ pair_count variables }
-{
-    start_of_row(variables, variables)
 }

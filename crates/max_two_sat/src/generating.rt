@@ -54,5 +54,5 @@ pub fn generate(alloc: Global, n: u32, seed: u32) -> Result<MaxTwoSat, AllocErro
     for _ in 0..3 * n {
         draw_clause(&mut draws, n, &mut draft);
     }
-    MaxTwoSat::prepared(alloc, draft)
+    Ok(MaxTwoSat::of_draft(draft))
 }

@@ -2,9 +2,9 @@
 //! two literals.
 //!
 //! `MaxTwoSat` is an instance, `read` and `print` are its texts, and `value_of` is the weight that an assignment satisfies, by the
-//! problem's own words. It implements `DpModel` of the crate dp_model: layer `k` gives variable `k` its value, and a state has for
+//! problem's own words. `PairModel<MaxTwoSat>` is its dynamic program: layer `k` gives variable `k` its value, and a state has for
 //! each later variable the net benefit of making it true, among the clauses that are decided but for it, as `pair_rows` keeps it. The
-//! crate stands on dp_model, tokens and pair_rows.
+//! crate stands on tokens, pair_rows and pair_problem.
 //!
 //! Promised, each in the contract of its call: `read` answers the instance exactly where the text is in the grammar, and otherwise its
 //! first fault with its place; `print` gives the canonical text, which reads as the same instance; the program meets the six laws of
@@ -12,8 +12,8 @@
 //! which is the same. Only want of memory has no stated cause.
 //!
 //! ```
-//! let model = read(alloc, b"p wcnf 2 1\n3 1 -2 0\n")?;
-//! let text = print(alloc, &model)?;
+//! let model = PairModel::<MaxTwoSat>::read(alloc, b"p wcnf 2 1\n3 1 -2 0\n")?;
+//! let value = PairModel::value_of(&model, &[1, 1]); // Some(3)
 //! ```
 #![tactic(auto)]
 
@@ -25,7 +25,6 @@ mod header;
 mod instance;
 mod lines;
 mod listing;
-mod model;
 mod printing;
 mod problem;
 mod reading;

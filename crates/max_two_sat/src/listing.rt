@@ -1,18 +1,28 @@
 //! The variables and pairs of an instance, with what their clauses give.
 
 ghost use Rattle.std.specs.Prelude.{◌≡◌, ◌^◌, pos, ◌≤ℤ◌, map, IfOk, IsTrue};
-ghost use Rattle.pair_rows.specs.Shown.{instance_of};
+ghost use Rattle.pair_rows.specs.Shown.{instance_of, instance_in as rows_shown};
 ghost use Rattle.max_two_sat.specs.Instance.{pair_total, pairs_total, unit_total, units_total};
 ghost use Rattle.max_two_sat.specs.Limits.{IsWithinLimits, PairIsPositive, UnitIsPositive, pairs_are_positive, units_are_positive};
 ghost use Rattle.max_two_sat.specs.Program.{pair_values, rows_in, unit_values};
+ghost use Rattle.max_two_sat.specs.Shown.{instance_in};
 
+use crate::instance::MaxTwoSat;
 use crate::value::{pair_sum, value_of_pair, value_of_unit};
 use crate::weights::{PairWeights, UnitWeights};
-use pair_rows::{PairInstance, PairValues, UnitValues};
+use pair_rows::{PairInstance, PairRows, PairValues, UnitValues};
 use std::alloc::{AllocError, Global};
 
+/// The rows of an instance.
+pub(crate) fn rows_of(alloc: Global, model: &MaxTwoSat) -> Result<PairRows, AllocError>
+    ensures { IfOk result (λ rows. rows_shown rows ≡ rows_in (instance_in model.now)) }
+{
+    let list = listed(alloc, model.tautologies, &model.units, &model.pairs)?;
+    PairRows::prepared(alloc, &list)
+}
+
 /// The variables and pairs of an instance.
-pub(crate) fn listed(
+fn listed(
     alloc: Global,
     tautologies: i64,
     units: &[UnitWeights],

@@ -33,5 +33,5 @@ pub fn read(alloc: Global, bytes: &[u8]) -> Result<MaxTwoSat, ReadModelError>
     if !ends_clauses(&tokens) {
         return Err(fault_here(InstanceFault::Count, &tokens));
     }
-    Ok(MaxTwoSat::prepared(alloc, draft)?)
+    Ok(MaxTwoSat::of_draft(draft))
 }

@@ -7,7 +7,8 @@ ghost use Rattle.max_two_sat.specs.Limits.{PairIsPositive, pairs_are_positive, u
 ghost use Rattle.max_two_sat.specs.Shown.{instance_in};
 ghost use Rattle.max_two_sat.specs.OwnWords.{all_truth_values, own_value, pair_left, pair_value, row_value, rows_value, unit_value, units_value};
 ghost use Rattle.dp_model.specs.Solution.{SolutionGives};
-ghost use Rattle.max_two_sat.specs.Program.{program_of};
+ghost use Rattle.pair_rows.specs.Program.{program_of};
+ghost use Rattle.max_two_sat.specs.Program.{rows_in};
 
 use crate::instance::MaxTwoSat;
 use crate::weights::{PairWeights, UnitWeights};
@@ -17,7 +18,7 @@ use pair_rows::row_of;
 /// not. Such lists are the feasible solutions of the program, with this value.
 pub fn value_of(model: &MaxTwoSat, decisions: &[u32]) -> Option<i64>
     ensures own_words { result ≡ own_value (instance_in model.now) decisions.now }
-    ensures solution { SolutionGives (program_of (instance_in model.now)) decisions.now result }
+    ensures solution { SolutionGives (program_of (rows_in (instance_in model.now))) decisions.now result }
 {
     let units = model.units.as_slice();
     if !is_assignment(units.len(), decisions) {

@@ -25,7 +25,7 @@ macro_rules! by_name {
                 $call::<$crate::choosing::PairModel<$crate::choosing::MaxCut> $($(, $other)*)?>($($argument),*)
             }
             $crate::choosing::ModelName::MaxTwoSat => {
-                $call::<$crate::choosing::MaxTwoSat $($(, $other)*)?>($($argument),*)
+                $call::<$crate::choosing::PairModel<$crate::choosing::MaxTwoSat> $($(, $other)*)?>($($argument),*)
             }
             $crate::choosing::ModelName::TspWindows => {
                 $call::<$crate::choosing::TspWindows $($(, $other)*)?>($($argument),*)

@@ -1,5 +1,6 @@
 use super::{Pair, Program, Refusal, Sample, is_program, refuses, spells};
 use max_two_sat::MaxTwoSat;
+use pair_problem::PairModel;
 use tokens::InstanceFault;
 
 const THREE_VARIABLES: &[u8] = b"p wcnf 3 6 99\n4 -3 1 0\n0 2 0\n7 0\n2 -2 -2 0\n5 3 0\n1 2 -1 0\n";
@@ -105,7 +106,7 @@ const PROGRAM: Program = Program {
 
 #[test]
 fn worked_texts(rt: HostRuntime) {
-    spells::<MaxTwoSat>(&rt, rt.alloc(), SAMPLES);
-    refuses::<MaxTwoSat>(&rt, rt.alloc(), REFUSALS);
-    is_program::<MaxTwoSat>(&rt, rt.alloc(), &PROGRAM);
+    spells::<PairModel<MaxTwoSat>>(&rt, rt.alloc(), SAMPLES);
+    refuses::<PairModel<MaxTwoSat>>(&rt, rt.alloc(), REFUSALS);
+    is_program::<PairModel<MaxTwoSat>>(&rt, rt.alloc(), &PROGRAM);
 }

@@ -14,5 +14,5 @@ loop-preserved c =
 pub draw_clause-requires-clause-drawing : goal.draw_clause-requires-clause-drawing
 draw_clause-requires-clause-drawing c = c.loop.invariant.drawing
 
-pub prepared-requires-clause-gathered : goal.prepared-requires-clause-gathered
-prepared-requires-clause-gathered c = c.loop.invariant.drawing.under_way.gathered
+pub of_draft-requires-clause-gathered : goal.of_draft-requires-clause-gathered
+of_draft-requires-clause-gathered c = c.loop.invariant.drawing.under_way.gathered

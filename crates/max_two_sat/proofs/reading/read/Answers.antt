@@ -8,5 +8,5 @@ pub read_clauses-requires-clause-under_way : goal.read_clauses-requires-clause-u
 read_clauses-requires-clause-under_way c =
     subst (λ (g : Gathered). IsGathering c.in_ok-header.header g) (sym c.in_ok-draft.ensures) (way-begins c.in_ok-header.header c.in_ok-header.ensures.variables)
 
-pub prepared-requires-clause-gathered : goal.prepared-requires-clause-gathered
-prepared-requires-clause-gathered c = c.in_ok-read_clauses.ensures.gathered
+pub of_draft-requires-clause-gathered : goal.of_draft-requires-clause-gathered
+of_draft-requires-clause-gathered c = c.in_ok-read_clauses.ensures.gathered

@@ -1,7 +1,0 @@
-use Rattle.std.proofs.Common.{ap, ◌∙◌}
-use Rattle.dp_model.specs.Dp.{Dp}
-use Rattle.max_two_sat.proofs.Handing.{same}
-use Rattle.max_two_sat.proofs.model.MaxTwoSatDpModel.vars.Goals as goal
-
-pub returns : goal.returns
-returns c = c.vars.ensures ∙ ap (λ (p : Dp). p.vars) (same c.args.self.now)
