@@ -57,7 +57,11 @@ fn knapsacks_have_their_beams(rt: HostRuntime) {
 fn wide_beams_are_best(rt: HostRuntime) {
     let model: PairModel<MaxCut> = instance(&rt, rt.alloc(), b"3 3\n1 2 3\n2 3 1\n1 3 2\n");
     has_beam(&rt, rt.alloc(), &model, (8, None, Some((5, &[0, 1, 1]))));
-    let model: PairModel<MaxCut> = instance(&rt, rt.alloc(), b"4 4\n1 2 -2\n1 4 7\n2 3 4\n3 4 -4\n");
+    let model: PairModel<MaxCut> = instance(
+        &rt,
+        rt.alloc(),
+        b"4 4\n1 2 -2\n1 4 7\n2 3 4\n3 4 -4\n",
+    );
     has_beam(
         &rt,
         rt.alloc(),
