@@ -192,6 +192,15 @@ impl<'m, M: DpModel> Servers<'m, M> {
         }
     }
 
+    /// Whether a row with this rank would be put in: where there are fewer than there may be, or where it is stronger than the weakest.
+    fn wants(&self, rank: i64, bound: Option<i64>) -> bool {
+        let servers = self.list.as_slice();
+        if servers.is_empty() || servers.len() < self.most {
+            return true;
+        }
+        is_stronger(rank, bound, &servers[place_of_weakest(servers)])
+    }
+
     /// Lets a row serve, under its number, where it is a state of the layer.
     pub(crate) fn add(
         &mut self,
@@ -203,6 +212,9 @@ impl<'m, M: DpModel> Servers<'m, M> {
         let Some(rank) = rank_of(self.model, self.depth, words) else {
             return Ok(());
         };
+        if !self.wants(rank, bound) {
+            return Ok(());
+        }
         let server = Server::of(alloc, words, rank, bound, number)?;
         put_server(self.model, self.depth, server, self.most, &mut self.list)
     }
@@ -228,7 +240,7 @@ impl<'m, M: DpModel> Servers<'m, M> {
         };
         let servers = self.list.as_slice();
         let found = number_of_server(self.model, self.depth, servers, words, rank, bound);
-        if found.is_none() {
+        if found.is_none() && self.wants(rank, bound) {
             let server = Server::of(alloc, words, rank, bound, number)?;
             put_server(self.model, self.depth, server, self.most, &mut self.list)?;
         }

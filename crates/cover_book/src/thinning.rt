@@ -152,6 +152,22 @@ impl<'m, M: DpModel> Kept<'m, M> {
         self.servers.add(alloc, words, bound, number)?;
         Ok(number)
     }
+
+    /// The number of a kept row that serves this one. Where there is none, this one is kept.
+    fn put(
+        &mut self,
+        alloc: Global,
+        words: &[i64],
+        bound: Option<i64>,
+        arcs: Option<&[CoverArc]>,
+    ) -> Result<u32, OutOfMemory> {
+        let number = last_count(&self.rows);
+        if let Some(server) = self.servers.serve(alloc, words, bound, number)? {
+            return Ok(server);
+        }
+        push_row(bound, words, arcs, &mut self.rows)?;
+        Ok(number)
+    }
 }
 
 /// A row of a layer that waits.
@@ -328,16 +344,18 @@ fn keep_row<M: DpModel>(
     let Some(row) = layer.rows.row(0, place as usize) else {
         return Ok(0);
     };
+    if row.has_arcs {
+        return kept.put(aim.alloc, row.words, row.bound, Some(row.arcs));
+    }
+    let Some(wait) = wait_of(layer.waiting.as_slice(), place) else {
+        return kept.put(aim.alloc, row.words, row.bound, None);
+    };
     if let Some(server) = kept.servers.server_of(row.words, row.bound) {
         return Ok(server);
     }
-    if let Some(wait) = wait_of(layer.waiting.as_slice(), place) {
-        let (words, bound) = (row.words, row.bound);
-        let row = OpenRow { words, bound, wait };
-        return keep_waiting(aim, k, row, supply, layers, kept);
-    }
-    let arcs = if row.has_arcs { Some(row.arcs) } else { None };
-    kept.push(aim.alloc, row.words, row.bound, arcs)
+    let (words, bound) = (row.words, row.bound);
+    let row = OpenRow { words, bound, wait };
+    keep_waiting(aim, k, row, supply, layers, kept)
 }
 
 /// Writes the number of a row.
