@@ -1,11 +1,12 @@
 -- When the answer to a search that keeps a journal is right.
-use Rattle.std.specs.Prelude.{◌≡◌, ◌⊎◌, ℕ, ℤ, List, [], Option, MatchResult, IfOk, IsSome, IsTrue}
+use Rattle.std.specs.Prelude.{◌≡◌, ◌⊎◌, ℕ, ℤ, List, [], Option, Some, None, MatchResult, IfOk, IsSome, IsTrue}
 use Rattle.disk.specs.declared.disk.Disk.{Ghosts}
 use Rattle.disk.specs.Counts.{Rose}
 use Rattle.dp_model.specs.Dp.{Dp}
 use Rattle.journal_bytes.specs.Bodies.{RecordView}
 use Rattle.journal_bytes.specs.Frames.{frames_of}
-use Rattle.journal_bytes.specs.declared.head.TheConstants.{VERSION}
+use Rattle.journal_bytes.specs.declared.head.Part.{Part}
+use Rattle.journal_bytes.specs.declared.head.TheConstants.{PART_VERSION, VERSION}
 use Rattle.journal_bytes.specs.Journal.{HeadView, JournalView, HasRecords, after_head, journal_of}
 use Rattle.journal_file.specs.Refusing.{error_of}
 use Rattle.journal_file.specs.declared.error.JournalError.TheVariants as errors
@@ -27,7 +28,7 @@ use Rattle.solver_words.specs.declared.job.JobSettings.{JobSettings}
 
 -- the head of a new journal of an instance, with the distance of its search
 abbrev pub head_of : Theory → ModelName → ℤ → List ℤ → HeadView
-head_of t name within numbers = record { version = VERSION; within = within; model = name; text = t.canonical numbers }
+head_of t name within numbers = record { version = VERSION; within = within; model = name; part = None; text = t.canonical numbers }
 
 -- each front of these records may stand after old ones, where those are accepted
 abbrev pub MayBeAdded : Dp → ℤ → List RecordView → List RecordView → Type 0
@@ -68,12 +69,20 @@ module _ {D : Type 0} (on : Ghosts D) where
       (HasKept on dp head records (LeavesResumed on head records) now) outcome counts) answer
 
   -- for a journal whose first record has this offset: for the instance of its head, whose text is refused as malformed at 0
-  abbrev pub ResumesJournal : JournalView → ℕ → JobSettings → D → Answer → Type 0
-  ResumesJournal j first search now answer =
+  abbrev pub ResumesWhole : JournalView → ℕ → JobSettings → D → Answer → Type 0
+  ResumesWhole j first search now answer =
       let t = theory_of j.head.model in
       MatchResult (t.spelled j.head.text)
       (λ numbers. GoesOn (t.program numbers) (t.own_value numbers) j.head j.records first search now answer)
       (λ e. answer ≡ answers.Journal (errors.Malformed 0))
+
+  -- a search goes on from the journal of a whole search alone; that of a part is refused for its version
+  abbrev pub GoesOnIn : Option Part → Type 0 → Answer → Type 0
+  GoesOnIn None Whole answer = Whole
+  GoesOnIn (Some part) Whole answer = answer ≡ answers.Journal (errors.Version PART_VERSION)
+
+  abbrev pub ResumesJournal : JournalView → ℕ → JobSettings → D → Answer → Type 0
+  ResumesJournal j first search now answer = GoesOnIn j.head.part (ResumesWhole j first search now answer) answer
 
   -- a file was read after the first sync, which is what that found where the disk tells it; the answer is for the journal that it is, or the first cause for which it is none
   pub record WasResumed (search : JobSettings) (now : D) (answer : Answer) : Type 0 where

@@ -37,7 +37,8 @@ use Rattle.solver_report.specs.declared.answer.Outcome.{Outcome}
 use Rattle.solver_report.specs.Report.{is_final}
 use Rattle.solver_words.specs.Possible.{MaySearch}
 use Rattle.answers.specs.Journals.{HasGoneOn, HasKept, HasOpened, IsUnwritten, LeavesResumed}
-use Rattle.answers.specs.Kept.{GoesOn, going_on, MayBeAdded, MayFollow, Resumes, ResumesJournal, WasResumed}
+use Rattle.journal_bytes.specs.declared.head.Part.{Part}
+use Rattle.answers.specs.Kept.{GoesOn, GoesOnIn, going_on, MayBeAdded, MayFollow, Resumes, ResumesJournal, ResumesWhole, WasResumed}
 use Rattle.answers.specs.Outcomes.{HasSearched}
 use Rattle.answers.specs.Over.{IsOver}
 use Rattle.solver_words.specs.declared.job.JobSettings.{JobSettings}
@@ -184,10 +185,12 @@ module _ {D : Type 0} (on : Ghosts D) where
 
   -- it is not refused for the disk
   not-for-disk : (j : JournalView) (first : ℕ) (search : JobSettings) (now : D) → ResumesJournal on j first search now (answers.Journal errors.Disk) → ⊥
-  not-for-disk j first search now h =
-      let t = theory_of j.head.model in
-      never (t.spelled j.head.text) h
+  not-for-disk j first search now h = for-part j.head.part h
     where
+      for-part : (part : Option Part) → GoesOnIn on part (ResumesWhole on j first search now (answers.Journal errors.Disk)) (answers.Journal errors.Disk) → ⊥
+      for-part None whole = never ((theory_of j.head.model).spelled j.head.text) whole
+      for-part (Some part) same = cc
+
       never : {E : Type 0} (r : Result (List ℤ) E) → MatchResult r (λ numbers. AreRefused ((theory_of j.head.model).program numbers) first j.records errors.Disk)
           (λ e. answers.Journal errors.Disk ≡ answers.Journal (errors.Malformed 0)) → ⊥
       never (Ok numbers) refused = refused-not-disk ((theory_of j.head.model).program numbers) first j.records refused

@@ -16,7 +16,7 @@ use crate::starting::{Start, go_on};
 use answers::open_journal;
 use disk::Disk;
 use dp_model::OutOfMemory;
-use journal_bytes::{Head, Records};
+use journal_bytes::{Head, PART_VERSION, Records};
 use journal_file::{JournalError, Tail};
 use kept_board::Kept;
 use problem_theory::{Problem, ReadInstanceError};
@@ -27,8 +27,8 @@ use solver_words::JobSettings;
 use std::sync::Wait;
 use std::thread::Threads;
 
-/// Goes on with the search whose journal is in the named file, within the distance of the journal. Otherwise answers why it does not go on: the file is no journal, its head
-/// spells no instance, the width is refused, or a record may not follow. No cover is asked for.
+/// Goes on with the search whose journal is in the named file, within the distance of the journal. Otherwise answers why it does not go on: the file is no journal, it is of a
+/// part of a search, its head spells no instance, the width is refused, or a record may not follow. No cover is asked for.
 pub fn resume<D: Disk + Send, G: Gate + Sync, R: Threads + Wait + Sync>(
     run: &Runner<'_, G, R>,
     path: &str,
@@ -65,6 +65,12 @@ fn resume_journal<D: Disk + Send, G: Gate + Sync, R: Threads + Wait + Sync>(
     ensures refused { TouchesNothing disk result.1 result.0 }
     ensures left { LeavesOpened D.Disk (MayFollow (head_view tail.version head.now) records.now.records) (head_view tail.version head.now) records.now.records disk result.1 }
 {
+    if head.part.is_some() {
+        let refused = JournalError::Version {
+            found: PART_VERSION,
+        };
+        return (Answer::Journal(refused), disk);
+    }
     by_name!(
         head.model,
         resume_on::<D, G, R>(run, head, records, tail, search, disk)
@@ -83,6 +89,7 @@ fn resume_on<P: Problem, D: Disk + Send, G: Gate + Sync, R: Threads + Wait + Syn
     requires may { MaySearch search }
     requires coverless { search.cover_words ≡ None }
     requires named { theory_of head.now.model ≡ P.theory }
+    requires whole { head.now.part ≡ None }
     requires text { length head.now.text.items < 2 ^ 32 - 1 }
     requires distance { IsDistance head.now.within }
     requires within { records.now.within ≡ head.now.within }

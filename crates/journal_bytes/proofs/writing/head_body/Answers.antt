@@ -9,4 +9,4 @@ unfolding head_bytes
 returns-clause-reads c =
     let h = new_head c.args.head.now in
     let bytes : c.extend_from_slice-4.new.self.items ≡ head_bytes h = search rules in
-    head_written c.extend_from_slice-4.new.self.items h bytes refl c.requires.text c.requires.within
+    head_written c.extend_from_slice-4.new.self.items h bytes refl c.requires.text c.requires.within c.in_ok-push_mark.ensures.fits
