@@ -4,7 +4,7 @@
     tools/edge/changed.py PROGRAM JOURNAL [SEED [STEP]]
 
 PROGRAM is the solver's binary, and JOURNAL the file of a search that ended. The place is that which the client's own reader tells. SEED draws
-what a byte becomes, and with STEP only each so many bytes are changed.
+what a byte becomes, and with STEP only one byte in STEP is changed.
 """
 import os
 import random
