@@ -1,6 +1,6 @@
 -- A chain of tokens, step by step: what it gives where there was a fault.
 use Rattle.std.proofs.Common.{◌≡◌, ℕ, ◌-◌, ◌<◌, false, ◌∙◌, sym, refl}
-use Rattle.std.specs.Prelude.{Bool, Result, Err}
+use Rattle.std.specs.Prelude.{Bool, Result}
 use Rattle.tokens.specs.Text.{TextState}
 use Rattle.tokens.proofs.Chains.{until_more, until_ends, until_done, until_faults}
 use Rattle.part_text.specs.Grammar.{InstanceError, ReadReportsError, part_then, passed_then, until, Fails}

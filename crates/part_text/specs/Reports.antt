@@ -1,6 +1,6 @@
 -- Reports of parts that are settled, one after another: settled, perhaps within W, part I/K, journal DIGEST, value and assignment or value none,
 -- perhaps taken and finished.
-use Rattle.std.specs.Prelude.{ℕ, ◌-◌, ◌^◌, List, [], ◌∷◌, ◌++◌, length, ℤ, pos, neg_ℤ, cond, codes, Option, Some, None, option_map, Result, Ok, Err}
+use Rattle.std.specs.Prelude.{ℕ, ◌-◌, ◌^◌, List, [], ◌∷◌, ◌++◌, length, ℤ, pos, neg_ℤ, cond, codes, Option, Some, None, Result, Ok, Err}
 use Rattle.tokens.specs.Text.{TextState, after_token, ends_line, is_at_end, place_of, text_start}
 use Rattle.tokens.specs.declared.comment.Comment.TheVariants.{Never}
 use Rattle.dp_model.specs.declared.limits.TheConstants.{MOST_DISTANCE}

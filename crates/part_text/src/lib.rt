@@ -5,6 +5,8 @@
 //! or its first fault at its place, except for want of memory. `specs/Reports.antt` defines what is spelled. The crate stands on
 //! `part_reports` for what a report tells, on `solver_report` for its printed text, on `tokens` and on the crate `hex`.
 //!
+//! The function without parameters is a law: what is printed is read as what was printed (`reports_are_read`).
+//!
 //! ```
 //! let reports = read_reports(alloc, input.as_slice())?;
 //! ```
@@ -13,11 +15,13 @@
 mod best;
 mod fixed;
 mod head;
+mod laws;
 mod read_reports_error;
 mod reading;
 mod settled_report;
 mod written;
 
+pub use laws::reports_are_read;
 pub use read_reports_error::ReadReportsError;
 pub use reading::read_reports;
 pub use settled_report::SettledReport;
