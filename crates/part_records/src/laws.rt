@@ -4,11 +4,11 @@ ghost use Rattle.std.specs.Prelude.{ℕ, ◌<◌, ℤ, List, Option, IsPermutati
 ghost use Rattle.dp_model.specs.Dp.{Dp};
 ghost use Rattle.dp_model.specs.Laws.{IsLawful};
 ghost use Rattle.board_laws.specs.Board.{BoardState};
-ghost use Rattle.board_laws.specs.GoodBoard.{IsBoard, IsGood};
+ghost use Rattle.board_laws.specs.GoodBoard.{IsBoard, IsGood, IsGoodFrom};
 ghost use Rattle.journal_bytes.specs.Bodies.{IncumbentView, ListedView, Snapshot};
 ghost use Rattle.journal_replay.specs.Following.{snapshot_record};
 ghost use Rattle.journal_replay.specs.Parts.{IsPartRecorded};
-ghost use Rattle.part_records.specs.Parts.{PartsJoin, PartsSettle, dealt_record, listed_by_parts};
+ghost use Rattle.part_records.specs.Parts.{PartsJoin, PartsJoinFrom, PartsSettle, dealt_record, listed_by_parts};
 
 /// The parts of a snapshot list each of its subproblems once, and nothing else.
 pub fn parts_are_all()
@@ -30,4 +30,10 @@ pub fn parts_settle()
 /// distance no solution is further above it.
 pub fn parts_join()
     ensures { (dp : Dp) (b : BoardState) (of : ℕ) (found : ℕ → Option ℤ) → IsBoard dp b → IsGood dp b → 0 < of → PartsJoin dp b of found }
+{}
+
+/// A part that is dealt out again: where each of its parts is settled with a value, the greatest of the incumbent and of these values settles the
+/// prefixes with which it began.
+pub fn parts_join_from()
+    ensures { (dp : Dp) (starts : List (List ℕ)) (b : BoardState) (of : ℕ) (found : ℕ → Option ℤ) → IsBoard dp b → IsGoodFrom dp starts b → 0 < of → PartsJoinFrom dp starts b of found }
 {}
