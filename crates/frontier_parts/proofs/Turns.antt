@@ -1,5 +1,5 @@
 -- Places that pass a test, one after another, and the part of each place.
-use Rattle.std.proofs.Common.{◌≡◌, ℕ, suc, ◌+◌, ◌<◌, nat_eq, ℤ, Bool, true, false, cond, List, [], ◌∷◌, ◌++◌, length, length-append, filter, IsTrue, refl, sym, ap, ◌∙◌, arith}
+use Rattle.std.proofs.Common.{◌≡◌, ℕ, suc, ◌+◌, ◌<◌, ℤ, Bool, true, false, cond, List, [], ◌∷◌, ◌++◌, length, length-append, filter, refl, sym, ap, ◌∙◌, arith}
 use Rattle.std.proofs.lemmas.List.Elements.{filter-append}
 use Rattle.dp_model.specs.Decisions.{below}
 use Rattle.dp_model.proofs.Members.{Has, Has-below, Has-below-from, Has-filter, Has-filter-from}

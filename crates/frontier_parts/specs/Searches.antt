@@ -7,7 +7,18 @@ use Rattle.dp_model.specs.Numbers.{AtMost}
 use Rattle.dp_model.specs.Prefixes.{IsSolution, value_of}
 use Rattle.dp_model.proofs.Members.{Has}
 use Rattle.board_laws.specs.Board.{BoardState, frontier, incumbent_value, reach_of}
-use Rattle.frontier_parts.specs.Settled.{Settled, IsSettled, IsSettledWithin, joined, prefixes, values}
+use Rattle.board_laws.specs.Starts.{BeginsWithOne}
+use Rattle.frontier_parts.specs.Settled.{Settled, IsShown, IsSettled, IsSettledWithin, joined, prefixes, values}
+
+-- no feasible solution that begins with a start prefix exceeds the number
+abbrev pub HoldsFrom : Dp → List (List ℕ) → Option ℤ → Type 0
+HoldsFrom dp starts most = (x : List ℕ) → IsSolution dp x → BeginsWithOne starts x → AtMost (value_of dp x) most
+
+-- the value is shown, and each start prefix is settled with it, beside whatever incumbent
+pub record AreSettledBy (dp : Dp) (starts : List (List ℕ)) (within : ℤ) (found : Option ℤ) : Type 0 where
+  pub shown : IsShown dp found
+  pub nearly : (before : Option ℤ) → Each (λ p. IsSettledWithin dp within before (record { prefix = p; best = found })) starts
+  pub exactly : within ≡ pos 0 → (before : Option ℤ) → Each (λ p. IsSettled dp before (record { prefix = p; best = found })) starts
 
 -- the board's incumbent as what is known of a start prefix
 abbrev pub settled_by : BoardState → List ℕ → Settled

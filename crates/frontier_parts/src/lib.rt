@@ -5,7 +5,9 @@
 //!
 //! The functions without parameters are laws. Where an incumbent and prefixes cover all solutions and each prefix is settled, the joined
 //! value is the best one, and within a distance no solution is further above it (`parts_join`); so are the parts of the frontier of a
-//! board (`frontiers_join`); a search from start prefixes settles them (`runs_settle`, `boards_settle`); whichever prefixes give way to longer
+//! board (`frontiers_join`); a search from start prefixes settles them (`runs_settle`, `boards_settle`), and no solution
+//! that begins with one of them exceeds the bound of its board (`boards_bound`); a value settles them where no solution that begins with one
+//! exceeds it (`values_settle`); whichever prefixes give way to longer
 //! ones, each solution begins with one that is left (`dealt_parts_are_all`); each place is dealt to one part (`dealt_to_one`); and above
 //! covers of all branches of a prefix stands a cover of the prefix, up to one that the checker's tests on rows accept (`covers_join`).
 //!
@@ -29,6 +31,6 @@ mod splitting;
 pub use covers::covers_join;
 pub use dealing::{deal, dealt_to_one, is_dealt};
 pub use joining::{JoinedValue, join_values};
-pub use searches::{boards_settle, frontiers_join};
+pub use searches::{boards_bound, boards_settle, frontiers_join, values_settle};
 pub use settled::{parts_join, runs_settle};
 pub use splitting::dealt_parts_are_all;
