@@ -1,5 +1,5 @@
 -- The parts of a board's snapshot, and what they are joined to.
-use Rattle.std.proofs.Common.{◌≡◌, ℕ, ◌<◌, ℤ, List, map, IsPermutation, Option, inl, inr, refl, subst}
+use Rattle.std.proofs.Common.{◌≡◌, ℕ, ◌<◌, ℤ, pos, List, map, IsPermutation, Option, inl, inr, refl, subst}
 use Rattle.std.proofs.lemmas.Nat.{mod_below}
 use Rattle.dp_model.specs.Best.{best}
 use Rattle.dp_model.specs.Decisions.{below}
@@ -18,15 +18,15 @@ use Rattle.board_laws.proofs.Lists.{one-each, one-out}
 use Rattle.board_laws.proofs.Reading.{reach-zero}
 use Rattle.board.specs.Frontier.{frontier_of}
 use Rattle.frontier_parts.specs.Dealing.{part_of, turn_of}
+use Rattle.frontier_parts.specs.Searches.{AreSettledBy}
 use Rattle.frontier_parts.specs.Settled.{Settled, IsShown, IsSettled, IsSettledWithin, joined}
 use Rattle.frontier_parts.proofs.Joined.{HoldsBy, IsRising, greatest_is, has_within, inc_within, itself_rising, lower, reach_rising, shown_joined}
-use Rattle.frontier_parts.proofs.Runs.{begun_by}
-use Rattle.frontier_parts.proofs.Searching.{held_shown}
+use Rattle.frontier_parts.proofs.Searching.{held_shown, values_settle}
 use Rattle.journal_bytes.specs.Bodies.{IncumbentView, ListedView, Snapshot}
 use Rattle.journal_replay.specs.Following.{listed_recorded, snapshot_record}
 use Rattle.journal_replay.specs.Parts.{starts_of}
 use Rattle.journal_replay.proofs.Snapshots.{moved-in_order}
-use Rattle.part_records.specs.Parts.{IsPartSettled, IsPartSettledWithin, PartsJoin, PartsJoinFrom, bounds_in, dealt_record, joined_value, listed_by_parts}
+use Rattle.part_records.specs.Parts.{IsPartSettled, IsPartSettledWithin, PartsJoin, bounds_in, dealt_record, joined_value, listed_by_parts}
 use Rattle.part_records.proofs.Dealt.{dealt-once, member-dealt}
 
 pub parts-all : (best : Option IncumbentView) (next : ℕ) (os : List ListedView) (of : ℕ) → 0 < of → IsPermutation (listed_by_parts of (Snapshot best next os)) os
@@ -107,18 +107,9 @@ module _ (dp : Dp) (starts : List (List ℕ)) (b : BoardState) (of : ℕ) (found
       (starts_of (dealt_record of index (snapshot_record b))) (λ p is. is.held) (settled index less).each in
       most (reach_of within) (reach_rising within) held h.covers
 
-  -- so each start prefix is settled
-  pub parts-joined-from : PartsJoinFrom dp starts b of found
-  parts-joined-from =
-      let value = joined_value b of found in
-      record {
-        exactly = λ zero settled before.
-            let there = shown (λ index less. (settled index less).shown) in
-            each-of-all (λ p. IsSettled dp before (record { prefix = p; best = value })) starts (λ p has. record { shown = there; held = λ x c. inl (exact zero settled x c.solution (begun_by dp starts p x has c)) });
-        nearly = λ settled before.
-            let there = shown (λ index less. (settled index less).shown) in
-            each-of-all (λ p. IsSettledWithin dp b.settings.within before (record { prefix = p; best = value })) starts (λ p has. record { shown = there; held = λ x c. inl (near settled x c.solution (begun_by dp starts p x has c)) });
-      }
+  -- so the joined value settles each start prefix
+  pub parts-joined-from : AreSettledWithin → AreSettledBy dp starts b.settings.within (joined_value b of found)
+  parts-joined-from settled = values_settle dp starts b.settings.within (joined_value b of found) (shown (λ index less. (settled index less).shown)) (near settled)
 
 -- from the empty prefix it is the best value
 pub parts-joined : (dp : Dp) (b : BoardState) (of : ℕ) (found : ℕ → Option ℤ) → IsBoard dp b → IsGood dp b → 0 < of → PartsJoin dp b of found

@@ -57,14 +57,6 @@ pub record PartsJoin (dp : Dp) (b : BoardState) (of : ℕ) (found : ℕ → Opti
   pub within : ((index : ℕ) → index < of → IsPartSettledWithin dp b (dealt_record of index (snapshot_record b)) (found index))
       → (x : List ℕ) → IsSolution dp x → AtMost (value_of dp x) (reach_of b.settings.within (joined_value b of found))
 
--- where each part of a search from start prefixes is settled, the joined value settles each of these prefixes, beside whatever was found before; or
--- within the distance
-pub record PartsJoinFrom (dp : Dp) (starts : List (List ℕ)) (b : BoardState) (of : ℕ) (found : ℕ → Option ℤ) : Type 0 where
-  pub exactly : b.settings.within ≡ pos 0 → ((index : ℕ) → index < of → IsPartSettled dp b (dealt_record of index (snapshot_record b)) (found index))
-      → (before : Option ℤ) → Each (λ p. IsSettled dp before (record { prefix = p; best = joined_value b of found })) starts
-  pub nearly : ((index : ℕ) → index < of → IsPartSettledWithin dp b (dealt_record of index (snapshot_record b)) (found index))
-      → (before : Option ℤ) → Each (λ p. IsSettledWithin dp b.settings.within before (record { prefix = p; best = joined_value b of found })) starts
-
 -- a search of these settings that began with this record has settled that part, of whichever board, with the last incumbent
 pub record HasSettled (dp : Dp) (settings : Settings) (first : RecordView) (last : BoardState) : Type 0 where
   pub exactly : settings.within ≡ pos 0 → (b : BoardState) → IsPartSettled dp b first (incumbent_value last)

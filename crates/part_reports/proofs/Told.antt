@@ -10,12 +10,13 @@ use Rattle.dp_model.specs.Prefixes.{IsCompletion, IsSolution, value_of}
 use Rattle.dp_model.proofs.Members.{Each-then}
 use Rattle.board_laws.specs.Board.{BoardState, incumbent_value, reach_of}
 use Rattle.board_laws.specs.GoodBoard.{IsBoard, IsGood, IsGoodFrom}
+use Rattle.frontier_parts.specs.Searches.{AreSettledBy}
 use Rattle.frontier_parts.specs.Settled.{IsShown, IsSettled, IsSettledWithin, joined}
 use Rattle.journal_bytes.specs.Bodies.{IncumbentView}
 use Rattle.journal_replay.specs.Following.{snapshot_record}
 use Rattle.part_records.specs.Parts.{IsPartSettled, IsPartSettledWithin, dealt_record, joined_value}
 use Rattle.part_records.proofs.Joining.{parts-joined, parts-joined-from}
-use Rattle.part_reports.specs.Joining.{IsHeld, IsHeldWithin, ReportsJoin, ReportsJoinFrom, part_starts, told_of}
+use Rattle.part_reports.specs.Joining.{IsHeld, IsHeldWithin, ReportsJoin, part_starts, told_of}
 use Rattle.part_reports.specs.Reports.{ReportView, AreReports, IsTested, value_told, values_told}
 
 -- the values that are told of the first n parts
@@ -82,10 +83,7 @@ module _ (dp : Dp) (b : BoardState) (digest : List ℕ) (rs : List ReportView) (
         within = λ held. subst (λ (o : Option ℤ). (x : List ℕ) → IsSolution dp x → AtMost (value_of dp x) (reach_of b.settings.within o)) same-joined (join.within (λ i less. held-near i less (held i less)));
       }
 
-  pub reports-join-from : (starts : List (List ℕ)) → IsBoard dp b → IsGoodFrom dp starts b → 0 < length rs → ReportsJoinFrom dp starts b rs
-  reports-join-from starts g h some =
-      let join = parts-joined-from dp starts b (length rs) (told_of rs) g h some in
-      record {
-        exactly = λ zero held before. subst (λ (o : Option ℤ). Each (λ p. IsSettled dp before (record { prefix = p; best = o })) starts) same-joined (join.exactly zero (λ i less. held-settled i less (held i less)) before);
-        nearly = λ held before. subst (λ (o : Option ℤ). Each (λ p. IsSettledWithin dp b.settings.within before (record { prefix = p; best = o })) starts) same-joined (join.nearly (λ i less. held-near i less (held i less)) before);
-      }
+  pub reports-join-from : (starts : List (List ℕ)) → IsBoard dp b → IsGoodFrom dp starts b → 0 < length rs
+      → ((i : ℕ) → i < length rs → IsHeldWithin dp b rs i) → AreSettledBy dp starts b.settings.within (joined (incumbent_value b) (values_told rs))
+  reports-join-from starts g h some held = subst (λ (o : Option ℤ). AreSettledBy dp starts b.settings.within o) same-joined
+      (parts-joined-from dp starts b (length rs) (told_of rs) g h some (λ i less. held-near i less (held i less)))

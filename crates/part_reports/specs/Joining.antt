@@ -6,7 +6,7 @@ use Rattle.dp_model.specs.Lists.{Each}
 use Rattle.dp_model.specs.Numbers.{AtMost}
 use Rattle.dp_model.specs.Prefixes.{IsCompletion, IsSolution, value_of}
 use Rattle.board_laws.specs.Board.{BoardState, incumbent_value, reach_of}
-use Rattle.frontier_parts.specs.Settled.{IsSettled, IsSettledWithin, joined}
+use Rattle.frontier_parts.specs.Settled.{joined}
 use Rattle.journal_replay.specs.Following.{snapshot_record}
 use Rattle.journal_replay.specs.Parts.{starts_of}
 use Rattle.part_records.specs.Parts.{dealt_record}
@@ -36,11 +36,3 @@ IsHeldWithin dp b rs i =
 pub record ReportsJoin (dp : Dp) (b : BoardState) (rs : List ReportView) : Type 0 where
   pub best : b.settings.within ≡ pos 0 → ((i : ℕ) → i < length rs → IsHeld dp b rs i) → joined (incumbent_value b) (values_told rs) ≡ best dp
   pub within : ((i : ℕ) → i < length rs → IsHeldWithin dp b rs i) → (x : List ℕ) → IsSolution dp x → AtMost (value_of dp x) (reach_of b.settings.within (joined (incumbent_value b) (values_told rs)))
-
--- of a board from start prefixes: where each part is held, the joined value settles each of these prefixes, beside whatever was found before; or within
--- the distance
-pub record ReportsJoinFrom (dp : Dp) (starts : List (List ℕ)) (b : BoardState) (rs : List ReportView) : Type 0 where
-  pub exactly : b.settings.within ≡ pos 0 → ((i : ℕ) → i < length rs → IsHeld dp b rs i)
-      → (before : Option ℤ) → Each (λ p. IsSettled dp before (record { prefix = p; best = joined (incumbent_value b) (values_told rs) })) starts
-  pub nearly : ((i : ℕ) → i < length rs → IsHeldWithin dp b rs i)
-      → (before : Option ℤ) → Each (λ p. IsSettledWithin dp b.settings.within before (record { prefix = p; best = joined (incumbent_value b) (values_told rs) })) starts
