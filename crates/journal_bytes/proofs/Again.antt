@@ -1,19 +1,20 @@
 -- What is spelled is read again.
 use Rattle.std.proofs.Common.{◌≡◌, ℕ, suc, ◌-◌, ◌^◌, ◌<◌, true, false, ltb, List, [], ◌∷◌, ◌++◌, length, Option, Some, None, Result, Ok, Err, Vec, Global, refl, sym, ap, ◌∙◌, append_assoc, length-append, arith}
-use Rattle.std.specs.Prelude.{All, IfOk, OnOk, ℤ, IfSome, FitsSigned, ◌==◌, if◌then◌else◌}
+use Rattle.std.specs.Prelude.{All, IfOk, OnOk, ℤ, IfSome, FitsSigned, nat_le, ◌==◌, if◌then◌else◌}
 use Rattle.std.specs.List.{flat_map, AllByRecursion}
 use Rattle.std.specs.Int.{w32, w64, to_be_bytes, cast_signed, cast_unsigned}
 use Rattle.std.proofs.lemmas.Bool.{le-ltb}
 use Rattle.std.proofs.lemmas.Bool.Decides.{nat_tests}
-use Rattle.std.proofs.lemmas.List.{append-nil}
+use Rattle.std.proofs.lemmas.List.{append-nil, take_at, drop_at}
 use Rattle.std.proofs.lemmas.Nat.{from_be_bytes-to_be_bytes_4, from_be_bytes-to_be_bytes_8}
 use Rattle.std.proofs.lemmas.Int.{to_z-of_z, ints}
 use Rattle.problem_names.specs.declared.ModelName.{ModelName}
 use Rattle.problem_names.specs.ModelNames.{byte_of, byte_again}
-use Rattle.journal_bytes.specs.Bodies.{◌>>=◌, number_at, many, decisions_at, child_at, ticket_of, incumbent_at, best_at, listed_at, improve_of, finish_of, snapshot_of, record_of, ChildView, IncumbentView, ListedView, RecordView, Improve, Finish, Snapshot}
+use Rattle.journal_bytes.specs.Bodies.{◌>>=◌, number_at, part_at, many, decisions_at, child_at, ticket_of, incumbent_at, best_at, listed_at, improve_of, finish_of, snapshot_of, record_of, ChildView, IncumbentView, ListedView, RecordView, Improve, Finish, Snapshot}
 use Rattle.journal_bytes.proofs.Sizes.{snapshot_parts}
-use Rattle.journal_bytes.specs.Journal.{HeadView, model_at, text_of, is_distance, distance_at, within_at, head_of}
-use Rattle.journal_bytes.specs.Spelling.{head_bytes, numbers, decision_bytes, number_of_ticket, bounded_bytes, child_bytes, listed_bytes, best_bytes, record_bytes, record_kind, ChildFits, ListedFits, IncumbentFits, RecordFits, IsOfVersion}
+use Rattle.journal_bytes.specs.declared.head.Part.{Part}
+use Rattle.journal_bytes.specs.Journal.{HeadView, model_at, text_of, is_distance, is_version, version_of_records, distance_at, within_at, mark_at, head_of}
+use Rattle.journal_bytes.specs.Spelling.{PartFits, mark_bytes, head_bytes, numbers, decision_bytes, number_of_ticket, bounded_bytes, child_bytes, listed_bytes, best_bytes, record_bytes, record_kind, ChildFits, ListedFits, IncumbentFits, RecordFits, IsOfVersion}
 
 pub word_again : (n : ℕ) (rest : List ℕ) → n < 2 ^ 32 → number_at w32 (to_be_bytes w32 n ++ rest) ≡ Some (n, rest)
 word_again n rest lt =
@@ -69,15 +70,60 @@ distance_again z rest fits is = rw (long_again (cast_unsigned w64 z) rest (unsig
 distance_fits : (z : ℤ) → is_distance z ≡ true → FitsSigned w64 z
 distance_fits z is = grind (arith, ints)
 
--- the head of a journal of the newest version
-pub head_again : (h : HeadView) → h.version ≡ 2 → length h.text < 2 ^ 32 → is_distance h.within ≡ true → head_of (record { kind = 1; body = head_bytes h }) ≡ Ok h
-unfolding head_of head_bytes within_at
-head_again h newest fits near =
-    let text = to_be_bytes w32 (length h.text) ++ h.text in
-    let first = word_again 2 (byte_of h.model ∷ (to_be_bytes w64 (cast_unsigned w64 h.within) ++ text)) (omega arith) in
-    let same : head_of (record { kind = 1; body = head_bytes h }) ≡ Ok (record { version = 2; within = h.within; model = h.model; text = h.text }) =
-    rw (first, model_again h.model (to_be_bytes w64 (cast_unsigned w64 h.within) ++ text), distance_again h.within text (distance_fits h.within near) near, text_again h.text fits) refl in
-    same ∙ (λ i. Ok (record { version = sym newest i; within = h.within; model = h.model; text = h.text }))
+part_again : (p : Part) (rest : List ℕ) → PartFits p → part_at (mark_bytes (Some p) ++ rest) ≡ Some (p, rest)
+unfolding part_at mark_bytes
+part_again p rest fits =
+    let parts : mark_bytes (Some p) ++ rest ≡ to_be_bytes w32 p.index ++ (to_be_bytes w32 p.of ++ (p.digest ++ rest)) = simp append_assoc in
+    let long : ltb (length (p.digest ++ rest)) 32 ≡ false = le-ltb _ _ (omega (arith, fits.digest, length-append p.digest rest)) in
+    let less : nat_le p.of p.index ≡ false = let less = fits.less in grind (arith, nat_tests) in
+    let front = take_at p.digest rest 32 fits.digest in
+    let back = drop_at p.digest rest 32 fits.digest in
+    ap part_at parts ∙ rw (word_again p.index (to_be_bytes w32 p.of ++ (p.digest ++ rest)) (omega (arith, fits.less, fits.of_fits)), word_again p.of (p.digest ++ rest) fits.of_fits, long, less, front, back) refl
+
+-- what is spelled for the head of a whole search, and for that of a part
+whole_again : (m : ModelName) (z : ℤ) (text : List ℕ) → length text < 2 ^ 32 → is_distance z ≡ true
+    → head_of (record { kind = 1; body = head_bytes (record { version = 2; within = z; model = m; part = None; text = text }) }) ≡ Ok (record { version = 2; within = z; model = m; part = None; text = text })
+unfolding head_of head_bytes within_at mark_at mark_bytes
+whole_again m z text fits near =
+    let body = to_be_bytes w32 (length text) ++ text in
+    let far = to_be_bytes w64 (cast_unsigned w64 z) ++ body in
+    let first = word_again 2 (byte_of m ∷ far) (omega arith) in
+    rw (first, model_again m far, distance_again z body (distance_fits z near) near, text_again text fits) refl
+
+-- the head of a frame, field by field
+head_from : (body after_version after_model after_within after_mark : List ℕ) (version : ℕ) (m : ModelName) (z : ℤ) (part : Option Part) (text : List ℕ) → number_at w32 body ≡ Some (version, after_version) → is_version version ≡ true
+    → model_at after_version ≡ Some (m, after_model) → within_at version after_model ≡ Some (z, after_within) → mark_at version after_within ≡ Some (part, after_mark) → text_of after_mark ≡ Some text
+    → head_of (record { kind = 1; body = body }) ≡ Ok (record { version = version_of_records version; within = z; model = m; part = part; text = text })
+unfolding head_of
+head_from body after_version after_model after_within after_mark version m z part text first is second third fourth last = rw (first, is, second, third, fourth, last) refl
+
+mark_again : (p : Part) (bytes rest : List ℕ) → part_at bytes ≡ Some (p, rest) → mark_at 3 bytes ≡ Some (Some p, rest)
+unfolding mark_at
+mark_again p bytes rest read = rw read refl
+
+marked_again : (p : Part) (m : ModelName) (z : ℤ) (text : List ℕ) → PartFits p → length text < 2 ^ 32 → is_distance z ≡ true
+    → head_of (record { kind = 1; body = head_bytes (record { version = 2; within = z; model = m; part = Some p; text = text }) }) ≡ Ok (record { version = 2; within = z; model = m; part = Some p; text = text })
+unfolding head_bytes within_at
+marked_again p m z text mark fits near =
+    let body = to_be_bytes w32 (length text) ++ text in
+    let rest = mark_bytes (Some p) ++ body in
+    let far = to_be_bytes w64 (cast_unsigned w64 z) ++ rest in
+    let bytes = to_be_bytes w32 3 ++ byte_of m ∷ far in
+    let parts : head_bytes (record { version = 2; within = z; model = m; part = Some p; text = text }) ≡ bytes = simp append_assoc in
+    let first = word_again 3 (byte_of m ∷ far) (omega arith) in
+    ap (λ (b : List ℕ). head_of (record { kind = 1; body = b })) parts
+    ∙ head_from bytes (byte_of m ∷ far) far rest body 3 m z (Some p) text first refl (model_again m far) (distance_again z rest (distance_fits z near) near) (mark_again p rest body (part_again p body mark)) (text_again text fits)
+
+-- the head of a journal with records of the newest version
+pub head_again : (h : HeadView) → h.version ≡ 2 → length h.text < 2 ^ 32 → is_distance h.within ≡ true → IfSome h.part PartFits → head_of (record { kind = 1; body = head_bytes h }) ≡ Ok h
+unfolding head_bytes
+head_again h newest fits near mark =
+    both h.part mark ∙ (λ i. Ok (record { version = sym newest i; within = h.within; model = h.model; part = h.part; text = h.text }))
+  where
+    both : (part : Option Part) → IfSome part PartFits
+        → head_of (record { kind = 1; body = head_bytes (record { version = 2; within = h.within; model = h.model; part = part; text = h.text }) }) ≡ Ok (record { version = 2; within = h.within; model = h.model; part = part; text = h.text })
+    both None fine = whole_again h.model h.within h.text fits near
+    both (Some p) fine = marked_again p h.model h.within h.text fine fits near
 
 pub child_again : (c : ChildView) (rest : List ℕ) → ChildFits c → child_at (child_bytes c ++ rest) ≡ Some (c, rest)
 unfolding child_at bounded_bytes
@@ -155,5 +201,5 @@ pub written : {E : Type 0} (result : Result (Vec ℕ Global) E) (r : RecordView)
 written (Ok v) r bytes fits = λ version has. ap (λ (b : List ℕ). record_of version (record { kind = record_kind r; body = b })) bytes ∙ record_again version r fits has
 written (Err e) r bytes fits = tt
 
-pub head_written : (body : List ℕ) (h : HeadView) → body ≡ head_bytes h → h.version ≡ 2 → length h.text < 2 ^ 32 → is_distance h.within ≡ true → head_of (record { kind = 1; body = body }) ≡ Ok h
-head_written body h bytes newest fits near = ap (λ (b : List ℕ). head_of (record { kind = 1; body = b })) bytes ∙ head_again h newest fits near
+pub head_written : (body : List ℕ) (h : HeadView) → body ≡ head_bytes h → h.version ≡ 2 → length h.text < 2 ^ 32 → is_distance h.within ≡ true → IfSome h.part PartFits → head_of (record { kind = 1; body = body }) ≡ Ok h
+head_written body h bytes newest fits near mark = ap (λ (b : List ℕ). head_of (record { kind = 1; body = b })) bytes ∙ head_again h newest fits near mark

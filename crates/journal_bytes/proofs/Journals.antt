@@ -1,6 +1,6 @@
 -- What a journal reads as, with one record more.
 use Rattle.std.proofs.Common.{◌≡◌, inl, inr, ℕ, ◌+◌, ◌^◌, ◌<◌, ◌≤◌, Bool, true, false, List, [], ◌∷◌, ◌++◌, length, Some, Result, Ok, Err, refl, sym, ◌∙◌, ap, subst, arith}
-use Rattle.std.specs.Prelude.{if◌then◌else◌}
+use Rattle.std.specs.Prelude.{IfSome, if◌then◌else◌}
 use Rattle.std.proofs.lemmas.Bool.{cases_lt, cases_eq}
 use Rattle.journal_bytes.specs.declared.refusal.Refusal.{Refusal}
 use Rattle.journal_bytes.specs.declared.refusal.Refusal.TheVariants.{NotBegun, Damaged}
@@ -8,7 +8,7 @@ use Rattle.journal_bytes.specs.declared.tail.Tail.{Tail}
 use Rattle.journal_bytes.specs.Frames.{Frame, Reading, reading_of, no_digest, is_sound, frames_of, closed_after, ReadsAs}
 use Rattle.journal_bytes.specs.Bodies.{RecordView, record_of}
 use Rattle.journal_bytes.specs.Journal.{◌>>=◌, HeadView, JournalView, or_malformed, head_of, is_distance, records_from, tail_of, since_all, since_after, IsCounted, journal_in, journal_of, HasRecords}
-use Rattle.journal_bytes.specs.Spelling.{head_frame}
+use Rattle.journal_bytes.specs.Spelling.{PartFits, head_frame}
 use Rattle.journal_bytes.proofs.Again.{head_again}
 use Rattle.journal_bytes.proofs.Found.{reading_none, reading_shut, reading_damaged}
 use Rattle.journal_bytes.proofs.Spelled.{long_of as sound_long}
@@ -106,9 +106,9 @@ one_more (g ∷ gs) f e file c j reads is more other =
     joined g (gs ++ f ∷ []) j.head (j.records ++ e ∷ []) c other p.head (records_push j.head.version gs (38 + length g.body) j.records f e p.records more)
 
 -- a file that reads as the frame of a head has this head and no records
-pub only_head : (h : HeadView) (c : List ℕ) → h.version ≡ 2 → length h.text < 2 ^ 32 → is_distance h.within ≡ true → ReadsAs (head_frame h ∷ []) c → HasRecords h [] c
+pub only_head : (h : HeadView) (c : List ℕ) → h.version ≡ 2 → length h.text < 2 ^ 32 → is_distance h.within ≡ true → IfSome h.part PartFits → ReadsAs (head_frame h ∷ []) c → HasRecords h [] c
 unfolding records_from
-only_head h c newest fits near reads = joined (head_frame h) [] h [] c reads (head_again h newest fits near) refl
+only_head h c newest fits near mark reads = joined (head_frame h) [] h [] c reads (head_again h newest fits near mark) refl
 
 -- The tail of a journal.
 

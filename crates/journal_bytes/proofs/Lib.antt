@@ -1,5 +1,6 @@
 pub mod Again
 pub mod Bases
+mod Counts
 pub mod Ended
 mod Entries
 pub mod Found

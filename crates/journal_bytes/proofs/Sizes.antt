@@ -10,7 +10,9 @@ use Rattle.journal_bytes.specs.declared.record.Child.{Child}
 use Rattle.journal_bytes.specs.declared.record.Incumbent.{Incumbent}
 use Rattle.journal_bytes.specs.declared.record.Listed.{Listed}
 use Rattle.journal_bytes.specs.Bodies.{ChildView, IncumbentView, ListedView, RecordView, Improve, Finish, Snapshot}
-use Rattle.journal_bytes.specs.Spelling.{numbers, decision_bytes, bounded_bytes, child_bytes, listed_bytes, best_bytes, record_bytes, child_size, listed_size, best_size, record_size, number_of_ticket, IsTicket}
+use Rattle.journal_bytes.specs.declared.head.Part.{Part}
+use Rattle.journal_bytes.specs.Journal.{HeadView}
+use Rattle.journal_bytes.specs.Spelling.{PartFits, version_for, mark_bytes, mark_size, head_bytes, numbers, decision_bytes, bounded_bytes, child_bytes, listed_bytes, best_bytes, record_bytes, child_size, listed_size, best_size, record_size, number_of_ticket, IsTicket}
 use Rattle.journal_bytes.specs.Views.{child_view, incumbent_view, listed_view}
 
 length-numbers : (ds : List ℕ) → length (numbers ds) ≡ 4 * length ds
@@ -114,3 +116,14 @@ pub best_is : (old first second new : List ℕ) (b : IncumbentView) → first �
 unfolding best_bytes
 best_is old first second new b a c d =
     d ∙ ap (λ (l : List ℕ). l ++ decision_bytes b.decisions) (c ∙ ap (λ (l : List ℕ). l ++ to_be_bytes w64 (cast_unsigned w64 b.value)) a) ∙ simp append_assoc
+
+length-mark : (mark : Option Part) → IfSome mark PartFits → length (mark_bytes mark) ≡ mark_size mark
+unfolding mark_bytes
+length-mark None fits = refl
+length-mark (Some p) fits = omega (arith, fits.digest)
+
+-- the bytes of a head
+pub length-head : (h : HeadView) → IfSome h.part PartFits → length (head_bytes h) ≡ 17 + mark_size h.part + length h.text
+unfolding head_bytes
+length-head h fits =
+    omega (arith, length-mark h.part fits, length-append (mark_bytes h.part ++ to_be_bytes w32 (length h.text)) h.text, length-append (mark_bytes h.part) (to_be_bytes w32 (length h.text)))

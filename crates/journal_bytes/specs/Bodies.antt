@@ -1,8 +1,9 @@
 -- The bodies of records: their fields from left to right, each as a value and the bytes after it. Where a field is not
 -- there, there is none.
-use Rattle.std.specs.Prelude.{ℕ, zero, suc, ◌-◌, ◌^◌, ℤ, nat_lt, ◌==◌, ◌&&◌, if◌then◌else◌, List, [], ◌∷◌, length, take, drop, Option, Some, None}
+use Rattle.std.specs.Prelude.{ℕ, zero, suc, ◌-◌, ◌^◌, ℤ, nat_le, nat_lt, ◌==◌, ◌&&◌, ◌||◌, if◌then◌else◌, List, [], ◌∷◌, length, take, drop, Option, Some, None}
 use Rattle.std.specs.Int.{Width, w32, w64, byte_len, from_be_bytes, cast_signed}
 use Rattle.journal_bytes.specs.Frames.{Frame}
+use Rattle.journal_bytes.specs.declared.head.Part.{Part}
 use Rattle.journal_bytes.specs.declared.head.TheConstants.{VERSION}
 
 infixl 10 ◌>>=◌
@@ -43,6 +44,13 @@ pub record RecordsView : Type 0 where
 -- a number of this width, and the bytes after it
 abbrev pub number_at : Width → List ℕ → Option (ℕ × List ℕ)
 number_at w bytes = if nat_lt (length bytes) (byte_len w) then None else Some (from_be_bytes w (take (byte_len w) bytes), drop (byte_len w) bytes)
+
+-- a part: its number, which is less than that of the parts, how many parts there are, and a digest
+unfoldable pub part_at : List ℕ → Option (Part × List ℕ)
+part_at bytes = do
+  index ← number_at w32 bytes
+  of ← number_at w32 index.1
+  if nat_lt (length of.1) 32 || nat_le of.0 index.0 then None else Some (record { index = index.0; of = of.0; digest = take 32 of.1 }, drop 32 of.1)
 
 -- this many items, one after the other
 unfoldable pub many : {A : Type 0} → (List ℕ → Option (A × List ℕ)) → ℕ → List ℕ → Option (List A × List ℕ)

@@ -9,21 +9,24 @@ use Rattle.journal_bytes.specs.declared.body.BodyError.TheVariants as bodies
 use Rattle.problem_names.specs.declared.ModelName.{ModelName}
 use Rattle.problem_names.specs.ModelNames.{model_of_byte}
 use Rattle.journal_bytes.specs.declared.head.Head.{Head}
-use Rattle.journal_bytes.specs.declared.head.TheConstants.{VERSION, MOST_WITHIN}
+use Rattle.journal_bytes.specs.declared.head.Part.{Part}
+use Rattle.journal_bytes.specs.declared.head.TheConstants.{VERSION, PART_VERSION, MOST_WITHIN}
 use Rattle.journal_bytes.specs.declared.tail.Tail.{Tail}
 use Rattle.journal_bytes.specs.Frames.{Frame, Reading, reading_of}
-use Rattle.journal_bytes.specs.Bodies.{RecordView, RecordsView, Improve, Finish, Snapshot, number_at, record_of}
+use Rattle.journal_bytes.specs.Bodies.{RecordView, RecordsView, Improve, Finish, Snapshot, number_at, part_at, record_of}
 
 infixl 10 ◌>>=◌
 abbrev pub ◌>>=◌ : {A B : Type 0} → Result A Refusal → (A → Result B Refusal) → Result B Refusal
 (Ok x) >>= f = f x
 (Err e) >>= f = Err e
 
--- the version of the journal, the distance of its search, the problem, and the text of the instance
+-- the version of the records, the distance of the search, the problem, the part of a search, or none where the journal is of a whole one, and the
+-- text of the instance
 pub record HeadView : Type 0 where
   pub version : ℕ
   pub within : ℤ
   pub model : ModelName
+  pub part : Option Part
   pub text : List ℕ
 
 -- a head, the records after it, and where they end
@@ -58,17 +61,25 @@ distance_at bytes = elim (number_at w64 bytes) [ None ↦ None | Some n ↦ if i
 unfoldable pub within_at : ℕ → List ℕ → Option (ℤ × List ℕ)
 within_at version bytes = if version == 1 then Some (pos 0, bytes) else distance_at bytes
 
+-- the part that the head of a journal of this version has, and what stands after it: there is one in the version for parts alone
+unfoldable pub mark_at : ℕ → List ℕ → Option (Option Part × List ℕ)
+mark_at version bytes = if version == PART_VERSION then (elim (part_at bytes) [ None ↦ None | Some p ↦ Some (Some p.0, p.1) ]) else Some (None, bytes)
+
 -- whether journals of the version are read
 abbrev pub is_version : ℕ → Bool
-is_version version = version == 1 || version == VERSION
+is_version version = version == 1 || version == VERSION || version == PART_VERSION
+
+-- the version of the records in a journal of this version: those of a part are of the newest one
+abbrev pub version_of_records : ℕ → ℕ
+version_of_records version = if version == 1 then 1 else VERSION
 
 -- the head that a frame spells
 unfoldable pub head_of : Frame → Result HeadView Refusal
 head_of f = if f.kind == 1 then (or_malformed 0 (number_at w32 f.body) >>= λ version.
-    if is_version version.0 then (or_malformed 0 (model_at version.1) >>= λ model. or_malformed 0 (within_at version.0 model.1) >>= λ within. or_malformed 0 (text_of within.1) >>= λ text.
-    Ok (record { version = version.0; within = within.0; model = model.0; text = text })) else Err (Version version.0)) else Err (Malformed 0)
+    if is_version version.0 then (or_malformed 0 (model_at version.1) >>= λ model. or_malformed 0 (within_at version.0 model.1) >>= λ within. or_malformed 0 (mark_at version.0 within.1) >>= λ part.
+    or_malformed 0 (text_of part.1) >>= λ text. Ok (record { version = version_of_records version.0; within = within.0; model = model.0; part = part.0; text = text })) else Err (Version version.0)) else Err (Malformed 0)
 
--- the records of the frames from this offset on, in a journal of this version
+-- the records of the frames from this offset on, of this version
 unfoldable pub records_from : ℕ → ℕ → List Frame → Result (List RecordView) Refusal
 records_from version at [] = Ok []
 records_from version at (f ∷ fs) = or_malformed at (record_of version f) >>= λ e. records_from version (at + (FRAME_OVERHEAD + length f.body)) fs >>= λ es. Ok (e ∷ es)
@@ -84,7 +95,7 @@ abbrev pub since_all : ℕ → List RecordView → ℕ
 since_all n [] = n
 since_all n (r ∷ rs) = since_all (since_after n r) rs
 
--- where a reading with these records in a journal of this version ends
+-- where a reading with these records of this version ends
 abbrev pub tail_of : Reading → ℕ → List RecordView → Tail
 tail_of r version records = record { end = r.end; digest = r.digest; version = version; since = since_all 0 records }
 
@@ -109,9 +120,9 @@ journal_of file = if nat_le (length file) 1 then Err NotBegun else journal_in (r
 abbrev pub HasRecords : HeadView → List RecordView → List ℕ → Type 0
 HasRecords head records file = (tail : Tail) × (journal_of file ≡ Ok (record { head = head; records = records; tail = tail }))
 
--- a head in a journal of this version as its readers see it
+-- a head with records of this version as its readers see it
 abbrev pub head_view : ℕ → Head → HeadView
-head_view version h = record { version = version; within = h.within; model = h.model; text = h.text.items }
+head_view version h = record { version = version; within = h.within; model = h.model; part = h.part; text = h.text.items }
 
 -- the head of a journal of the newest version
 abbrev pub new_head : Head → HeadView

@@ -4,5 +4,6 @@ pub mod Ends
 pub mod Found
 pub mod Frames
 pub mod Journal
+pub mod Sizes
 pub mod Spelling
 pub mod Views

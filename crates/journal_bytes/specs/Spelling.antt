@@ -5,12 +5,34 @@ use Rattle.std.specs.Int.{w32, w64, to_be_bytes, cast_unsigned}
 use Rattle.problem_names.specs.ModelNames.{byte_of}
 use Rattle.journal_bytes.specs.Bodies.{ChildView, IncumbentView, ListedView, RecordView, Improve, Finish, Snapshot}
 use Rattle.journal_bytes.specs.Frames.{Frame}
-use Rattle.journal_bytes.specs.declared.head.TheConstants.{VERSION}
+use Rattle.journal_bytes.specs.declared.head.Part.{Part}
+use Rattle.journal_bytes.specs.declared.head.TheConstants.{VERSION, PART_VERSION}
 use Rattle.journal_bytes.specs.Journal.{HeadView}
 
--- the body of a head of the newest version
+-- the version of a new journal: that of parts is their own
+abbrev pub version_for : Option Part → ℕ
+version_for None = VERSION
+version_for (Some p) = PART_VERSION
+
+-- the bytes of a part, or of none
+unfoldable pub mark_bytes : Option Part → List ℕ
+mark_bytes None = []
+mark_bytes (Some p) = to_be_bytes w32 p.index ++ to_be_bytes w32 p.of ++ p.digest
+
+-- how many these are
+abbrev pub mark_size : Option Part → ℕ
+mark_size None = 0
+mark_size (Some p) = 40
+
+-- a part that can be written
+pub record PartFits (p : Part) : Type 0 where
+  pub less : p.index < p.of
+  pub of_fits : p.of < 2 ^ 32
+  pub digest : length p.digest ≡ 32
+
+-- the body of the head of a new journal
 unfoldable pub head_bytes : HeadView → List ℕ
-head_bytes h = to_be_bytes w32 VERSION ++ byte_of h.model ∷ [] ++ to_be_bytes w64 (cast_unsigned w64 h.within) ++ to_be_bytes w32 (length h.text) ++ h.text
+head_bytes h = to_be_bytes w32 (version_for h.part) ++ byte_of h.model ∷ [] ++ to_be_bytes w64 (cast_unsigned w64 h.within) ++ mark_bytes h.part ++ to_be_bytes w32 (length h.text) ++ h.text
 
 -- numbers of 32 bits
 abbrev pub numbers : List ℕ → List ℕ

@@ -1,10 +1,10 @@
 ghost use Rattle.std.specs.Prelude.{◌≡◌, List, map, option_map};
 ghost use Rattle.std.specs.Int.{w32, w64, cast_signed};
-ghost use Rattle.journal_bytes.specs.Bodies.{number_at, many, decisions_at, child_at, incumbent_at, best_at, listed_at, improve_of, finish_of, snapshot_of, record_of};
+ghost use Rattle.journal_bytes.specs.Bodies.{number_at, part_at, many, decisions_at, child_at, incumbent_at, best_at, listed_at, improve_of, finish_of, snapshot_of, record_of};
 ghost use Rattle.journal_bytes.specs.Views.{child_view, incumbent_view, listed_view, record_view, Gives};
 ghost use Rattle.journal_bytes.specs.declared.body.BodyError.TheVariants.{OutOfMemory};
 
-use crate::head::VERSION;
+use crate::head::{Part, VERSION};
 use crate::record::{Child, Incumbent, Listed, Record};
 use std::alloc::{AllocError, AllocFailed, Global};
 
@@ -53,6 +53,22 @@ pub(crate) fn u64_at(bytes: &[u8]) -> Result<(u64, &[u8]), BodyError>
         front[0], front[1], front[2], front[3], front[4], front[5], front[6], front[7],
     ]);
     Ok((number, rest))
+}
+
+/// The part of a head: its number, less than that of the parts, how many parts there are, and a digest.
+#[tactic(auto, unfolding(crate::specs::Bodies::part_at))]
+pub(crate) fn part_in(bytes: &[u8]) -> Result<(Part, &[u8]), BodyError>
+    ensures { Gives (λ x. (x.0, x.1.now)) result (part_at bytes.now) }
+{
+    let (index, rest) = u32_at(bytes)?;
+    let (of, rest) = u32_at(rest)?;
+    if rest.len() < 32 || of <= index {
+        return Err(BodyError::Malformed);
+    }
+    let (front, rest) = rest.split_at(32);
+    let mut digest = [0; 32];
+    digest.copy_from_slice(front);
+    Ok((Part { index, of, digest }, rest))
 }
 
 /// This many decisions.

@@ -1,10 +1,24 @@
 use problem_names::ModelName;
 
-/// The version of the journals that are written.
+/// The version of the journals of whole searches that are written.
 pub const VERSION: u32 = 2;
+
+/// The version of the journals of parts of a search. Its head has the part, and its records are those of version 2.
+pub const PART_VERSION: u32 = 3;
 
 /// The greatest distance that a head may have: 2^50.
 pub const MOST_WITHIN: i64 = 0x4_0000_0000_0000;
+
+/// A part of a search that was dealt out.
+#[derive(Clone, Copy, Debug, PartialEq, Eq)]
+pub struct Part {
+    /// The number of the part, from 0 on. It is less than the number of parts.
+    pub index: u32,
+    /// How many parts there are.
+    pub of: u32,
+    /// The digest of the last record of the journal that was split.
+    pub digest: [u8; 32],
+}
 
 /// What a journal begins with.
 #[derive(Debug, Drop)]
@@ -12,6 +26,8 @@ pub struct Head {
     pub model: ModelName,
     /// How far the search may end from the best value, from 0 to `MOST_WITHIN`. A journal of version 1 is of distance 0.
     pub within: i64,
+    /// The part of a search that the journal has, or none where it is of a whole search.
+    pub part: Option<Part>,
     /// The text of the instance.
     pub text: Vec<u8>,
 }

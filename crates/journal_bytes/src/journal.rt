@@ -3,12 +3,12 @@ ghost use Rattle.journal_bytes.specs.Frames.{frames_of};
 ghost use Rattle.journal_bytes.specs.Found.{found, frame};
 ghost use Rattle.journal_bytes.specs.Ends.{EndsAt};
 ghost use Rattle.journal_bytes.specs.Views.{record_view};
-ghost use Rattle.journal_bytes.specs.Journal.{after_head, placed_at, head_of, head_view, model_at, is_distance, is_version, distance_at, within_at, text_of, or_malformed, records_from, since_all, journal_in, journal_of, journal_view, Gives};
+ghost use Rattle.journal_bytes.specs.Journal.{after_head, placed_at, head_of, head_view, model_at, is_distance, is_version, version_of_records, distance_at, within_at, mark_at, text_of, or_malformed, records_from, since_all, journal_in, journal_of, journal_view, Gives};
 
-use crate::body::{BodyError, record_of, u32_at, u64_at};
+use crate::body::{BodyError, part_in, record_of, u32_at, u64_at};
 use crate::frames::{FRAME_OVERHEAD, Found, Frame, read_frames};
-use crate::head::{MOST_WITHIN, VERSION};
-use crate::{Head, Record, Records, Refusal, Tail};
+use crate::head::{MOST_WITHIN, PART_VERSION, VERSION};
+use crate::{Head, Part, Record, Records, Refusal, Tail};
 use problem_names::ModelName;
 use std::alloc::Global;
 
@@ -71,11 +71,32 @@ fn within_in(version: u32, bytes: &[u8]) -> Result<(i64, &[u8]), Refusal>
     distance_in(bytes)
 }
 
+/// The part of a head of a version, and what stands after it.
+#[tactic(auto, unfolding(crate::specs::Journal::mark_at))]
+fn mark_in(version: u32, bytes: &[u8]) -> Result<(Option<Part>, &[u8]), Refusal>
+    ensures { Gives (λ x. (x.0, x.1.now)) result (or_malformed 0 (mark_at version bytes.now)) }
+{
+    if version != PART_VERSION {
+        return Ok((None, bytes));
+    }
+    match part_in(bytes) {
+        Ok((part, rest)) => Ok((Some(part), rest)),
+        Err(e) => Err(placed(e, 0)),
+    }
+}
+
 /// Whether journals of the version are read.
 fn is_version(version: u32) -> bool
     ensures { result ≡ is_version version }
 {
-    version == 1 || version == VERSION
+    version == 1 || version == VERSION || version == PART_VERSION
+}
+
+/// The version of the records in a journal of a version.
+fn version_of_records(version: u32) -> u32
+    ensures { result ≡ version_of_records version }
+{
+    if version == 1 { 1 } else { VERSION }
 }
 
 /// The text of a head, which ends its body.
@@ -93,7 +114,7 @@ fn text_in(alloc: Global, bytes: &[u8]) -> Result<Vec<u8>, Refusal>
     Ok(Vec::from_slice(alloc, rest)?)
 }
 
-/// The head of a first record, and the version of the journal.
+/// The head of a first record, and the version of the records.
 #[tactic(auto, unfolding(crate::specs::Journal::head_of))]
 fn head_in(alloc: Global, first: &Frame) -> Result<(Head, u32), Refusal>
     ensures { Gives (λ r. head_view r.1 r.0) result (head_of (frame first.now)) }
@@ -110,14 +131,16 @@ fn head_in(alloc: Global, first: &Frame) -> Result<(Head, u32), Refusal>
     }
     let (model, rest) = model_in(rest)?;
     let (within, rest) = within_in(version, rest)?;
+    let (part, rest) = mark_in(version, rest)?;
     let text = text_in(alloc, rest)?;
     Ok((
         Head {
             model,
             within,
+            part,
             text,
         },
-        version,
+        version_of_records(version),
     ))
 }
 

@@ -19,6 +19,18 @@ const TOO_FAR_HEAD: &[u8] = b"\x00\x00\x00\x02\x01\x00\x04\x00\x00\x00\x00\x00\x
 const NEGATIVE_HEAD: &[u8] =
     b"\x00\x00\x00\x02\x01\xff\xff\xff\xff\xff\xff\xff\xff\x00\x00\x00\x00";
 
+/// Version 3, knapsack, distance 0, part 1 of 3 of the journal with the digest 32 times 7, no text.
+const PART_HEAD: &[u8] =
+    b"\x00\x00\x00\x03\x01\x00\x00\x00\x00\x00\x00\x00\x00\x00\x00\x00\x01\x00\x00\x00\x03\x07\x07\x07\x07\x07\x07\x07\x07\x07\x07\x07\x07\x07\x07\x07\x07\x07\x07\x07\x07\x07\x07\x07\x07\x07\x07\x07\x07\x07\x07\x07\x07\x00\x00\x00\x00";
+
+/// The same of part 3 of 3.
+const NO_PART_HEAD: &[u8] =
+    b"\x00\x00\x00\x03\x01\x00\x00\x00\x00\x00\x00\x00\x00\x00\x00\x00\x03\x00\x00\x00\x03\x07\x07\x07\x07\x07\x07\x07\x07\x07\x07\x07\x07\x07\x07\x07\x07\x07\x07\x07\x07\x07\x07\x07\x07\x07\x07\x07\x07\x07\x07\x07\x07\x00\x00\x00\x00";
+
+/// The same of part 1 of 3, with a digest of four bytes.
+const SHORT_PART_HEAD: &[u8] =
+    b"\x00\x00\x00\x03\x01\x00\x00\x00\x00\x00\x00\x00\x00\x00\x00\x00\x01\x00\x00\x00\x03\x00\x00\x00\x00";
+
 /// No best solution, the next ticket 0, no subproblems.
 const EMPTY_SNAPSHOT: &[u8] = b"\x00\x00\x00\x00\x00\x00\x00\x00\x00\x00\x00\x00\x00";
 
@@ -80,8 +92,19 @@ fn the_first_wrong_record_is_told(rt: HostRuntime) -> Result<(), Fail> {
             Err(Refusal::Malformed { offset: 0 }),
         ),
         (
+            &[(1, b"\x00\x00\x00\x04")],
+            Err(Refusal::Version { found: 4 }),
+        ),
+        (
             &[(1, b"\x00\x00\x00\x03")],
-            Err(Refusal::Version { found: 3 }),
+            Err(Refusal::Malformed { offset: 0 }),
+        ),
+        (&[(1, PART_HEAD)], Ok(0)),
+        (&[(1, PART_HEAD), (4, SNAPSHOT), finish], Ok(1)),
+        (&[(1, NO_PART_HEAD)], Err(Refusal::Malformed { offset: 0 })),
+        (
+            &[(1, SHORT_PART_HEAD)],
+            Err(Refusal::Malformed { offset: 0 }),
         ),
         (&[(1, NEW_HEAD)], Ok(0)),
         (&[(1, FAR_HEAD)], Ok(0)),

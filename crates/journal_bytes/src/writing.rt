@@ -3,14 +3,39 @@ ghost use Rattle.std.specs.List.{flat_map, AllByRecursion};
 ghost use Rattle.std.specs.Int.{w32, w64, to_be_bytes, cast_unsigned};
 ghost use Rattle.journal_bytes.specs.Bodies.{Improve, Finish, Snapshot, record_of};
 ghost use Rattle.journal_bytes.specs.Journal.{head_of, is_distance, new_head};
-ghost use Rattle.journal_bytes.specs.Spelling.{head_bytes, numbers, decision_bytes, bounded_bytes, child_bytes, listed_bytes, best_bytes, record_bytes, number_of_ticket, record_kind, record_size, HasSpelling, IsOfVersion, IsTicket, ChildFits, ListedFits, IncumbentFits, RecordFits};
+ghost use Rattle.journal_bytes.specs.Spelling.{head_bytes, mark_bytes, mark_size, version_for, PartFits, numbers, decision_bytes, bounded_bytes, child_bytes, listed_bytes, best_bytes, record_bytes, number_of_ticket, record_kind, record_size, HasSpelling, IsOfVersion, IsTicket, ChildFits, ListedFits, IncumbentFits, RecordFits};
 ghost use Rattle.journal_bytes.specs.Views.{child_view, incumbent_view, listed_view, record_view};
 
-use crate::head::VERSION;
-use crate::{Child, Head, Incumbent, Listed, Record};
+use crate::head::{PART_VERSION, VERSION};
+use crate::{Child, Head, Incumbent, Listed, Part, Record};
 use std::alloc::{AllocError, Global};
 
-/// The body of a head, in the newest version. The text has fewer than `2^32` bytes, and the distance is from 0 to `MOST_WITHIN`.
+/// The version of a new journal with this part, or of a whole search.
+fn version_for(part: Option<Part>) -> u32
+    ensures { result ≡ version_for part }
+{
+    match part {
+        Some(_) => PART_VERSION,
+        None => VERSION,
+    }
+}
+
+#[tactic(auto, unfolding(crate::specs::Spelling::mark_bytes))]
+fn push_mark(body: &mut Vec<u8>, mark: Option<Part>) -> Result<(), AllocError>
+    requires { IfSome mark (λ p. p.index < p.of) }
+    ensures bytes { OnOk result (body.new.items ≡ body.old.items ++ mark_bytes mark) }
+    ensures fits { OnOk result (IfSome mark PartFits) }
+{
+    if let Some(part) = mark {
+        body.extend_from_slice(&part.index.to_be_bytes())?;
+        body.extend_from_slice(&part.of.to_be_bytes())?;
+        body.extend_from_slice(&part.digest)?;
+    }
+    Ok(())
+}
+
+/// The body of a head: in version 3 where it has a part, and else in version 2. The text has fewer than `2^32` bytes, the distance is from 0 to
+/// `MOST_WITHIN`, and the number of a part is less than that of the parts.
 ///
 /// # Errors
 ///
@@ -19,16 +44,19 @@ use std::alloc::{AllocError, Global};
 pub fn head_body(alloc: Global, head: &Head) -> Result<Vec<u8>, AllocError>
     requires text { length head.now.text.items < 2 ^ 32 }
     requires within { IsTrue (is_distance head.now.within) }
+    requires part { IfSome head.now.part (λ p. p.index < p.of) }
     ensures bytes { IfOk result (λ v. v.items ≡ head_bytes (new_head head.now)) }
 
     // It reads back as the head.
     ensures reads { IfOk result (λ v. head_of (record { kind = 1; body = v.items }) ≡ Ok (new_head head.now)) }
-    ensures size { IfOk result (λ v. length v.items ≡ 17 + length head.now.text.items) }
+    ensures fits { OnOk result (IfSome head.now.part PartFits) }
+    ensures size { IfOk result (λ v. length v.items ≡ 17 + mark_size head.now.part + length head.now.text.items) }
 {
     let mut body = Vec::new(alloc);
-    body.extend_from_slice(&VERSION.to_be_bytes())?;
+    body.extend_from_slice(&version_for(head.part).to_be_bytes())?;
     body.push(head.model.byte())?;
     body.extend_from_slice(&head.within.to_be_bytes())?;
+    push_mark(&mut body, head.part)?;
     body.extend_from_slice(&(head.text.len() as u32).to_be_bytes())?;
     body.extend_from_slice(&head.text)?;
     Ok(body)

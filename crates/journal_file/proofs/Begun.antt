@@ -8,7 +8,7 @@ use Rattle.journal_bytes.specs.declared.tail.Tail.{Tail}
 use Rattle.journal_bytes.specs.Frames.{Frame, no_digest, frames_of, ReadsAs, IsBeforeOrAfter}
 use Rattle.journal_file.specs.Settled.{IsSettled, IsOpen}
 use Rattle.journal_bytes.specs.Journal.{HeadView, is_distance, journal_in, journal_of, HasRecords}
-use Rattle.journal_bytes.specs.Spelling.{head_frame}
+use Rattle.journal_bytes.specs.Spelling.{PartFits, head_frame}
 use Rattle.journal_file.specs.Beginning.{IsProbed, BeganAt, LeavesSince, MayBegin, IsBegun}
 use Rattle.disk.proofs.Runs.{then, weaker}
 use Rattle.journal_bytes.proofs.Found.{reading_shut}
@@ -42,11 +42,12 @@ may_begin false file probed = inr probed
 pub torn_first : (file c : List ℕ) → length file ≤ 1 → Torn 0 1 file c → journal_of c ≡ Err NotBegun
 torn_first file c short torn = short_file c (omega (arith, torn.no_longer))
 
--- a head that is written: of the newest version, with a short text and a distance
+-- a head that is written: with records of the newest version, a short text, a distance, and a part that can be written or none
 pub record IsNew (h : HeadView) : Type 0 where
   pub newest : h.version ≡ 2
   pub short : length h.text < 2 ^ 32
   pub near : is_distance h.within ≡ true
+  pub mark : IfSome h.part PartFits
 
 -- no record, or the head
 pub first_record : (h : HeadView) (c : List ℕ) → IsNew h → IsBeforeOrAfter [] (head_frame h) c → IsBegun h c
@@ -55,7 +56,7 @@ first_record h c fits (inl none) = elim (cases_lt 1 (length c)) [
   | inl long ↦ inl (long_file c long ∙ ap journal_in none)
   | inr short ↦ inl (short_file c short)
 ]
-first_record h c fits (inr one) = inr (only_head h c fits.newest fits.short fits.near one)
+first_record h c fits (inr one) = inr (only_head h c fits.newest fits.short fits.near fits.mark one)
 
 -- a file that begins with a closed gate is a journal with no record, and no head
 pub closed_settled : (file : List ℕ) (may_leave : List ℕ → Type 0) (tail : Tail) → 0 < length file → get_or file 0 0 ≡ 0 → tail.end ≡ 0 → tail.digest ≡ no_digest → Only file may_leave → IsSettled file may_leave tail (frames_of file) × (frames_of file ≡ [])
@@ -111,5 +112,5 @@ module _ {D : Type 0} (moment : D → ℕ) (left_since : D → ℕ → List ℕ 
 pub head_open : (file : List ℕ) (may_leave : List ℕ → Type 0) (tail : Tail) (h : HeadView) (g : Frame) (fs : List Frame) → IsNew h → (tail.version ≡ 2) × (tail.since ≡ 0) → g ≡ head_frame h → fs ≡ [] → IsSettled file may_leave tail (frames_of file) × (frames_of file ≡ fs ++ g ∷ []) → IsOpen file may_leave tail × HasRecords h [] file
 head_open file may_leave tail h g fs fits counts same none done =
     let frames : frames_of file ≡ head_frame h ∷ [] = done.1 ∙ (λ i. none i ++ same i ∷ []) in
-    let reads = only_head h file fits.newest fits.short fits.near (subst (λ (xs : List Frame). ReadsAs xs file) frames (settled_reads file may_leave tail (frames_of file) done.0)) in
+    let reads = only_head h file fits.newest fits.short fits.near fits.mark (subst (λ (xs : List Frame). ReadsAs xs file) frames (settled_reads file may_leave tail (frames_of file) done.0)) in
     (record { settled = done.0; head = h; records = []; reads = reads; counted = record { version = counts.0 ∙ sym fits.newest; since = counts.1 } }, reads)

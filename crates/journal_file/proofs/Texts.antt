@@ -1,5 +1,5 @@
 -- The text of a journal's head.
-use Rattle.std.proofs.Common.{◌≡◌, inl, inr, ℕ, ◌+◌, ◌-◌, ◌^◌, ◌<◌, ◌≤◌, Bool, true, false, List, [], ◌∷◌, length, Option, Some, None, Result, Ok, Err, sym, ◌∙◌, subst, arith, length-drop}
+use Rattle.std.proofs.Common.{◌≡◌, inl, inr, ℕ, ◌+◌, ◌-◌, ◌^◌, ◌<◌, ◌≤◌, Bool, true, false, List, [], ◌∷◌, length, drop, Option, Some, None, Result, Ok, Err, sym, ◌∙◌, subst, arith, length-drop}
 use Rattle.std.specs.Prelude.{IfOk, IfSome, if◌then◌else◌, ◌==◌}
 use Rattle.std.specs.Int.{w32, w64}
 use Rattle.std.specs.List.{AllByRecursion}
@@ -7,10 +7,11 @@ use Rattle.std.proofs.lemmas.Bool.{cases_lt}
 use Rattle.std.proofs.lemmas.Bool.Decides.{nat_tests}
 use Rattle.journal_bytes.specs.declared.refusal.Refusal.{Refusal}
 use Rattle.journal_bytes.specs.declared.tail.Tail.{Tail}
-use Rattle.journal_bytes.specs.Bodies.{number_at}
+use Rattle.journal_bytes.specs.declared.head.Part.{Part}
+use Rattle.journal_bytes.specs.Bodies.{◌>>=◌ as bind, number_at, part_at}
 use Rattle.journal_bytes.specs.Ends.{EndsAt}
 use Rattle.journal_bytes.specs.Frames.{Frame, Fits, reading_of, frames_of}
-use Rattle.journal_bytes.specs.Journal.{◌>>=◌, HeadView, JournalView, or_malformed, model_at, is_version, distance_at, within_at, text_of, head_of, records_from, journal_in, journal_of}
+use Rattle.journal_bytes.specs.Journal.{◌>>=◌, HeadView, JournalView, or_malformed, model_at, is_version, distance_at, within_at, mark_at, text_of, head_of, records_from, journal_in, journal_of}
 use Rattle.journal_bytes.proofs.Ended.{short_file, long_file}
 
 -- what is read of a field leaves fewer bytes
@@ -43,6 +44,24 @@ after_within : (version : ℕ) (bytes : List ℕ) → IfSome (within_at version 
 unfolding within_at
 after_within version bytes = let far = after_distance bytes in grind (arith)
 
+if_bind : {A B : Type 0} (P : A → Type 0) (Q : B → Type 0) (o : Option A) (f : A → Option B) → IfSome o P → ((x : A) → P x → IfSome (f x) Q) → IfSome (bind o f) Q
+if_bind P Q None f has next = tt
+if_bind P Q (Some x) f has next = next x has
+
+after_part : (bytes : List ℕ) → IfSome (part_at bytes) (λ p. length p.1 ≤ length bytes)
+unfolding part_at
+after_part bytes =
+    if_bind (λ n. 4 + length n.1 ≤ length bytes) (λ p. length p.1 ≤ length bytes) (number_at w32 bytes) _ (after_word bytes) (λ index less.
+    if_bind (λ n. 4 + length n.1 ≤ length index.1) (λ p. length p.1 ≤ length bytes) (number_at w32 index.1) _ (after_word index.1) (λ of fewer. kept of.1 _ _ (omega (arith, less, fewer))))
+  where
+    kept : (rest : List ℕ) (b : Bool) (p : Part) → length rest ≤ length bytes → IfSome {T = Part × List ℕ} (if b then None else Some (p, drop 32 rest)) (λ p. length p.1 ≤ length bytes)
+    kept rest true p le = tt
+    kept rest false p le = omega (arith, le, length-drop 32 rest)
+
+after_mark : (version : ℕ) (bytes : List ℕ) → IfSome (mark_at version bytes) (λ p. length p.1 ≤ length bytes)
+unfolding mark_at
+after_mark version bytes = let part = after_part bytes in grind (arith)
+
 module _ {A B : Type 0} (f : A → Result B Refusal) (P : A → Type 0) (Q : B → Type 0) (next : (x : A) → P x → IfOk (f x) Q) where
   if_ok : (r : Result A Refusal) → IfOk r P → IfOk (r >>= f) Q
   if_ok (Ok x) has = next x has
@@ -68,7 +87,8 @@ head_within f =
     on_either (is_version version.0) _ _ (IsWithin (length f.body))
     (if_some _ (λ model. 1 + length model.1 ≤ length version.1) (IsWithin (length f.body)) (λ model fits_model.
     if_some _ (λ within. length within.1 ≤ length model.1) (IsWithin (length f.body)) (λ within fits_within.
-    if_some _ (λ text. 4 + length text ≤ length within.1) (IsWithin (length f.body)) (λ text fits_text. omega (arith, fits, fits_model, fits_within, fits_text)) 0 (text_of within.1) (text_within within.1)) 0 (within_at version.0 model.1) (after_within version.0 model.1)) 0 (model_at version.1) (after_model version.1))
+    if_some _ (λ part. length part.1 ≤ length within.1) (IsWithin (length f.body)) (λ part fits_part.
+    if_some _ (λ text. 4 + length text ≤ length part.1) (IsWithin (length f.body)) (λ text fits_text. omega (arith, fits, fits_model, fits_within, fits_part, fits_text)) 0 (text_of part.1) (text_within part.1)) 0 (mark_at version.0 within.1) (after_mark version.0 within.1)) 0 (within_at version.0 model.1) (after_within version.0 model.1)) 0 (model_at version.1) (after_model version.1))
     tt) 0 (number_at w32 f.body) (after_word f.body))
     tt
 

@@ -46,6 +46,7 @@ fn add_head<D: Disk>(
     requires durable { IsTrue (D.tells disk.old) → Only (D.seen disk.old) (D.may_leave disk.old) }
     requires text { length head.now.text.items ≤ 2 ^ 30 }
     requires within { IsTrue (is_distance head.now.within) }
+    requires part { IfSome head.now.part (λ p. p.index < p.of) }
     ensures ready { IfOk result (λ tail. IsTrue (D.tells disk.old) →
         IsOpen (D.seen disk.new) (D.may_leave disk.new) tail × HasRecords (new_head head.now) [] (D.seen disk.new)) }
     ensures any_moment { IsTrue (D.tells disk.old) → LeavesOnly D.moment D.left_since disk.old disk.new
@@ -69,8 +70,8 @@ fn add_head<D: Disk>(
 }
 
 /// Begins a journal with this head in a file that has none: syncs, writes a closed gate where the file has 0 or 1 bytes, and
-/// adds the head as `append` adds a record. The journal is of version 2. The text of the head has at most `2^30` bytes, and the
-/// distance is from 0 to 2^50.
+/// adds the head as `append` adds a record. The journal is of version 2, or of version 3 where the head has a part. The text of the head
+/// has at most `2^30` bytes, the distance is from 0 to 2^50, and the number of a part is less than that of the parts.
 ///
 /// # Errors
 ///
@@ -80,6 +81,7 @@ pub fn begin<D: Disk>(alloc: Global, disk: &mut D, head: &Head) -> Result<Tail, 
     requires attached { IsTrue (D.attached disk.old) }
     requires text { length head.now.text.items ≤ 2 ^ 30 }
     requires within { IsTrue (is_distance head.now.within) }
+    requires part { IfSome head.now.part (λ p. p.index < p.of) }
 
     // A record may be added after the head.
     ensures ready { IfOk result (λ tail. IsTrue (D.tells disk.old) →

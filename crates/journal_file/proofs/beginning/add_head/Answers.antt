@@ -29,7 +29,7 @@ append_frame-requires-clause-settled g c tells =
 pub returns-in_err-append_frame-clause-any_moment : goal.returns-in_err-append_frame-clause-any_moment
 returns-in_err-append_frame-clause-any_moment g c tells =
     let h = new_head c.args.head.now in
-    let fits : IsNew h = record { newest = refl; short = omega (arith, c.requires.text); near = c.requires.within } in
+    let fits : IsNew h = record { newest = refl; short = omega (arith, c.requires.text); near = c.requires.within; mark = c.in_ok-body.ensures.fits } in
     let between = c.close_first.new.disk in
     let still = subst IsTrue (sym c.close_first.ensures.keeps.still_tells) tells in
     let closed = c.in_ok-close_first.ensures.closed tells in
@@ -41,7 +41,7 @@ returns-in_err-append_frame-clause-any_moment g c tells =
 pub returns-clause-any_moment : goal.returns-clause-any_moment
 returns-clause-any_moment g c tells =
     let h = new_head c.args.head.now in
-    let fits : IsNew h = record { newest = refl; short = omega (arith, c.requires.text); near = c.requires.within } in
+    let fits : IsNew h = record { newest = refl; short = omega (arith, c.requires.text); near = c.requires.within; mark = c.in_ok-body.ensures.fits } in
     let between = c.close_first.new.disk in
     let still = subst IsTrue (sym c.close_first.ensures.keeps.still_tells) tells in
     let closed = c.in_ok-close_first.ensures.closed tells in
@@ -53,7 +53,7 @@ returns-clause-any_moment g c tells =
 pub returns-clause-ready : goal.returns-clause-ready
 returns-clause-ready g c tells =
     let h = new_head c.args.head.now in
-    let fits : IsNew h = record { newest = refl; short = omega (arith, c.requires.text); near = c.requires.within } in
+    let fits : IsNew h = record { newest = refl; short = omega (arith, c.requires.text); near = c.requires.within; mark = c.in_ok-body.ensures.fits } in
     let between = c.close_first.new.disk in
     let new = c.append_frame.new.disk in
     let still = subst IsTrue (sym c.close_first.ensures.keeps.still_tells) tells in
