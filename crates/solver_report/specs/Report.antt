@@ -31,6 +31,11 @@ use Rattle.solver_report.specs.declared.answer.Outcome.TheVariants.{Proved, Infe
 use Rattle.solver_report.specs.declared.answer.Counts.{Counts}
 use Rattle.solver_report.specs.declared.answer.JoinRefusal.{JoinRefusal}
 use Rattle.solver_report.specs.declared.answer.JoinRefusal.TheVariants as joins
+use Rattle.solver_report.specs.declared.answer.SearchedPart.{SearchedPart}
+use Rattle.solver_report.specs.declared.answer.PartOutcome.{PartOutcome}
+use Rattle.solver_report.specs.declared.answer.PartOutcome.TheVariants as outcomes
+use Rattle.solver_report.specs.declared.answer.ReportRefusal.{ReportRefusal}
+use Rattle.solver_report.specs.declared.answer.ReportRefusal.TheVariants as reports
 use Rattle.solver_report.specs.declared.answer.Answer.{Answer}
 use Rattle.solver_report.specs.declared.answer.Answer.TheVariants as answers
 
@@ -155,6 +160,33 @@ abbrev pub count_lines : Option Counts → List ℕ
 count_lines None = []
 count_lines (Some counts) = count_line (codes "taken") counts.taken ++ count_line (codes "finished") counts.finished
 
+-- the part that was searched: its number of this number of parts, and the digest of the journal that was split
+abbrev pub part_lines : SearchedPart → List ℕ
+part_lines p = line (codes "part " ++ (decimal p.index ++ 47 ∷ decimal p.of)) ++ line (codes "journal " ++ encode_lower p.digest)
+
+-- the first line of the report of a part that is settled, by how far a better solution of it may be above the value
+abbrev pub settled_line : ℤ → List ℕ
+settled_line within = cond (int_lt (pos 0) within) (number_line (codes "settled within") within) (line (codes "settled"))
+
+-- the report of a part that is settled
+abbrev pub settled_lines : SearchedPart → Option Solution → ℤ → List ℕ
+settled_lines p best within = settled_line within ++ (part_lines p ++ incumbent_lines best)
+
+-- the report of a part whose search ended early
+abbrev pub open_lines : SearchedPart → Stop → Option Solution → ℤ → List ℕ
+open_lines p stop incumbent bound = stop_line stop ++ (part_lines p ++ (incumbent_lines incumbent ++ number_line (codes "bound") bound))
+
+abbrev pub part_outcome_lines : SearchedPart → PartOutcome → List ℕ
+part_outcome_lines p (outcomes.Settled best within) = settled_lines p best within
+part_outcome_lines p (outcomes.Stopped stop incumbent bound) = open_lines p stop incumbent bound
+
+-- why reports are not joined; the number is the place of a report
+abbrev pub report_refusal_line : ReportRefusal → List ℕ
+report_refusal_line (reports.Order index) = count_line (codes "reports order") index
+report_refusal_line (reports.Journal index) = count_line (codes "reports journal") index
+report_refusal_line (reports.Distance index) = count_line (codes "reports distance") index
+report_refusal_line (reports.Value index) = count_line (codes "reports value") index
+
 -- the cover after a report, or that memory ran out for it
 abbrev pub text_after : Option (Vec ℕ Global) → List ℕ
 text_after None = line (codes "out of memory")
@@ -188,6 +220,11 @@ report (answers.Checked verdict) = verdict_line verdict
 report (answers.Refused e) = refusal_line e
 report (answers.CoverRefused e) = fault_line (codes "cover ") e
 report (answers.PartsRefused refusal) = join_line refusal
+report (answers.PartFile bytes) = bytes.items
+report (answers.PartSearched part outcome counts) = part_outcome_lines part outcome ++ count_lines counts
+report (answers.ReportRefused e) = fault_line (codes "report ") e
+report (answers.ReportsRefused refusal) = report_refusal_line refusal
+report answers.PartTooLarge = line (codes "part too-long")
 report answers.TooLong = line (codes "input too-long")
 report answers.Width = line (codes "width")
 report (answers.Words e) = words_line e
@@ -223,6 +260,17 @@ join_status (joins.Order index) = 3
 join_status (joins.Instance index) = 3
 join_status (joins.Refused index why) = 9
 
+abbrev pub part_status : PartOutcome → ℕ
+part_status (outcomes.Settled best within) = 0
+part_status (outcomes.Stopped stop incumbent bound) = 2
+
+-- an assignment that is no solution with its value is refused as a cover is
+abbrev pub report_refusal_status : ReportRefusal → ℕ
+report_refusal_status (reports.Order index) = 3
+report_refusal_status (reports.Journal index) = 3
+report_refusal_status (reports.Distance index) = 3
+report_refusal_status (reports.Value index) = 9
+
 -- the status that goes with an answer
 abbrev pub status_of : Answer → ℕ
 status_of (answers.Searched outcome counts) = outcome_status outcome
@@ -233,6 +281,11 @@ status_of (answers.Checked verdict) = verdict_status verdict
 status_of (answers.Refused e) = 3
 status_of (answers.CoverRefused e) = 3
 status_of (answers.PartsRefused refusal) = join_status refusal
+status_of (answers.PartFile bytes) = 0
+status_of (answers.PartSearched part outcome counts) = part_status outcome
+status_of (answers.ReportRefused e) = 3
+status_of (answers.ReportsRefused refusal) = report_refusal_status refusal
+status_of answers.PartTooLarge = 3
 status_of answers.TooLong = 3
 status_of answers.Width = 4
 status_of (answers.Words e) = words_status e

@@ -126,6 +126,39 @@ pub enum JoinRefusal {
     Refused { index: u32, why: Why },
 }
 
+/// The part of a stopped search that was searched.
+#[derive(Clone, Copy, Debug, PartialEq, Eq)]
+pub struct SearchedPart {
+    /// The number of the part, from 0.
+    pub index: u32,
+    /// How many parts there are.
+    pub of: u32,
+    /// The digest of the last record of the journal that was split.
+    pub digest: [u8; 32],
+}
+
+/// How the search of a part ended.
+#[derive(Debug, Drop)]
+pub enum PartOutcome {
+    /// The part is settled, with its best solution or none. If `within` is above 0, a better one is at most this much above its value.
+    Settled { best: Option<Solution>, within: i64 },
+    /// The search ended early: why, its incumbent or none, and a bound that no feasible solution of the part exceeds.
+    Stopped(Stop, Option<Solution>, i64),
+}
+
+/// Why the reports of the parts of a search are not joined. `index` is the place of a report, from 0.
+#[derive(Clone, Copy, Debug, PartialEq, Eq)]
+pub enum ReportRefusal {
+    /// The report at this place is not that of the part that belongs there, of as many parts as there are reports.
+    Order { index: u64 },
+    /// It is of a part of another journal.
+    Journal { index: u64 },
+    /// Its distance is not that of the journal.
+    Distance { index: u64 },
+    /// Its assignment is no feasible solution with its value.
+    Value { index: u64 },
+}
+
 /// What the program answers.
 #[derive(Debug, Drop)]
 pub enum Answer {
@@ -145,6 +178,20 @@ pub enum Answer {
     CoverRefused(InstanceError),
     /// The outputs in the input are not joined, for this reason.
     PartsRefused(JoinRefusal),
+    /// The bytes of a part of a stopped search.
+    PartFile(Vec<u8>),
+    /// How the search of a part ended, and its counts if they are asked for.
+    PartSearched {
+        part: SearchedPart,
+        outcome: PartOutcome,
+        counts: Option<Counts>,
+    },
+    /// The input spells no reports of parts.
+    ReportRefused(InstanceError),
+    /// The reports in the input are not joined, for this reason.
+    ReportsRefused(ReportRefusal),
+    /// The part has more bytes than a part may have.
+    PartTooLarge,
     /// The input is longer than the limit.
     TooLong,
     /// The width asked for is 0 or above the greatest width of the instance.

@@ -2,7 +2,7 @@
 //!
 //! It stands on `dp_model` for solutions, on `bound_cover` for verdicts, on `tokens` for numbers and faults of texts, on `solver_words` for
 //! why words are refused, on `journal_file` for why journals are, and on the crate `hex`.
-//! `report_text` gives exactly the text of an answer, and `status` its exit status.
+//! `report_text` gives exactly the text of an answer, and `status` its exit status. `specs/Report.antt` defines both.
 //!
 //! ```
 //! let answer = Answer::Searched(Outcome::Infeasible, None);
@@ -14,5 +14,7 @@
 mod answer;
 mod report;
 
-pub use answer::{Answer, Counts, JoinRefusal, Outcome, Solution, Stop};
+pub use answer::{
+    Answer, Counts, JoinRefusal, Outcome, PartOutcome, ReportRefusal, SearchedPart, Solution, Stop,
+};
 pub use report::{report_text, status};

@@ -2,9 +2,11 @@ ghost use Rattle.std.specs.Prelude.{◌≡◌, ◌∷◌, [], ◌++◌, pos, IfO
 ghost use Rattle.std.specs.Fmt.{decimal};
 ghost use Rattle.bound_cover.specs.declared.cover.Verdict.TheVariants.{Refused};
 ghost use Rattle.hex.specs.Hex.{encode_lower};
-ghost use Rattle.solver_report.specs.Report.{report, status_of, outcome_status, covered_status, text_after, words_status, journal_status, journal_line, line, number_line, spaced, assignment_line, solution_lines, proved_line, outcome_lines, count_line, count_lines, words_line, incumbent_lines, stop_line, fault_word, fault_line, failure_numbers, table_words, refusal_line, why_words, verdict_line, verdict_status, join_line, join_status};
+ghost use Rattle.solver_report.specs.Report.{report, status_of, outcome_status, covered_status, text_after, words_status, journal_status, journal_line, line, number_line, spaced, assignment_line, solution_lines, proved_line, outcome_lines, count_line, count_lines, words_line, incumbent_lines, stop_line, fault_word, fault_line, failure_numbers, table_words, refusal_line, why_words, verdict_line, verdict_status, join_line, join_status, part_lines, settled_line, settled_lines, open_lines, part_outcome_lines, part_status, report_refusal_line, report_refusal_status};
 
-use crate::answer::{Answer, Counts, JoinRefusal, Outcome, Solution, Stop};
+use crate::answer::{
+    Answer, Counts, JoinRefusal, Outcome, PartOutcome, ReportRefusal, SearchedPart, Solution, Stop,
+};
 use bound_cover::{Verdict, Why};
 use dp_model::OutOfMemory;
 use itoa::Buffer;
@@ -22,10 +24,16 @@ pub fn status(answer: &Answer) -> u8
     match answer {
         Answer::Searched(outcome, _) => outcome_status(outcome),
         Answer::Covered(outcome, _, cover) => covered_status(outcome, cover),
-        Answer::Digest(_) | Answer::Drawn(_) => 0,
+        Answer::Digest(_) | Answer::Drawn(_) | Answer::PartFile(_) => 0,
         Answer::Checked(verdict) => verdict_status(*verdict),
-        Answer::Refused(_) | Answer::CoverRefused(_) | Answer::TooLong => 3,
+        Answer::Refused(_)
+        | Answer::CoverRefused(_)
+        | Answer::ReportRefused(_)
+        | Answer::PartTooLarge
+        | Answer::TooLong => 3,
         Answer::PartsRefused(refusal) => join_status(*refusal),
+        Answer::PartSearched { outcome, .. } => part_status(outcome),
+        Answer::ReportsRefused(refusal) => report_refusal_status(*refusal),
         Answer::Width => 4,
         Answer::Words(error) => words_status(*error),
         Answer::Journal(error) => journal_status(*error),
@@ -75,6 +83,28 @@ fn join_status(refusal: JoinRefusal) -> u8
     }
 }
 
+/// The exit status of the search of a part.
+fn part_status(outcome: &PartOutcome) -> u8
+    ensures { result ≡ part_status outcome.now }
+{
+    match outcome {
+        PartOutcome::Settled { .. } => 0,
+        PartOutcome::Stopped(_, _, _) => 2,
+    }
+}
+
+/// The exit status of reports that are not joined.
+fn report_refusal_status(refusal: ReportRefusal) -> u8
+    ensures { result ≡ report_refusal_status refusal }
+{
+    match refusal {
+        ReportRefusal::Order { .. }
+        | ReportRefusal::Journal { .. }
+        | ReportRefusal::Distance { .. } => 3,
+        ReportRefusal::Value { .. } => 9,
+    }
+}
+
 /// The exit status of words that are refused, or that there was no memory for.
 fn words_status(error: WordsError) -> u8
     ensures { result ≡ words_status error }
@@ -117,6 +147,15 @@ pub fn report_text(alloc: Global, answer: &Answer) -> Result<Vec<u8>, OutOfMemor
         Answer::Refused(refusal) => push_unspelled(&mut out, refusal)?,
         Answer::CoverRefused(error) => push_fault(&mut out, "cover ", error)?,
         Answer::PartsRefused(refusal) => push_join_refusal(&mut out, *refusal)?,
+        Answer::PartFile(bytes) => out.extend_from_slice(bytes.as_slice())?,
+        Answer::PartSearched {
+            part,
+            outcome,
+            counts,
+        } => push_part_search(&mut out, alloc, part, outcome, *counts)?,
+        Answer::ReportRefused(error) => push_fault(&mut out, "report ", error)?,
+        Answer::ReportsRefused(refusal) => push_report_refusal(&mut out, *refusal)?,
+        Answer::PartTooLarge => push_line(&mut out, "part too-long")?,
         Answer::TooLong => push_line(&mut out, "input too-long")?,
         Answer::Width => push_line(&mut out, "width")?,
         Answer::Words(error) => push_words(&mut out, *error)?,
@@ -333,6 +372,90 @@ fn push_incumbent(out: &mut Vec<u8>, incumbent: &Option<Solution>) -> Result<(),
     match incumbent {
         Some(found) => push_solution(out, found),
         None => push_line(out, "value none"),
+    }
+}
+
+/// Appends the report of the search of a part.
+fn push_part_search(
+    out: &mut Vec<u8>,
+    alloc: Global,
+    part: &SearchedPart,
+    outcome: &PartOutcome,
+    counts: Option<Counts>,
+) -> Result<(), OutOfMemory>
+    ensures { OnOk result (out.new.items ≡ out.old.items ++ (part_outcome_lines part.now outcome.now ++ count_lines counts)) }
+{
+    push_part_outcome(out, alloc, part, outcome)?;
+    push_counts(out, counts)
+}
+
+/// Appends how the search of a part ended.
+fn push_part_outcome(
+    out: &mut Vec<u8>,
+    alloc: Global,
+    part: &SearchedPart,
+    outcome: &PartOutcome,
+) -> Result<(), OutOfMemory>
+    ensures { OnOk result (out.new.items ≡ out.old.items ++ part_outcome_lines part.now outcome.now) }
+{
+    match outcome {
+        PartOutcome::Settled { best, within } => push_settled(out, alloc, part, best, *within),
+        PartOutcome::Stopped(stop, incumbent, bound) => {
+            push_stop(out, *stop)?;
+            push_part(out, alloc, part)?;
+            push_incumbent(out, incumbent)?;
+            push_number_line(out, "bound", *bound)
+        }
+    }
+}
+
+/// Appends the report of a part that is settled.
+fn push_settled(
+    out: &mut Vec<u8>,
+    alloc: Global,
+    part: &SearchedPart,
+    best: &Option<Solution>,
+    within: i64,
+) -> Result<(), OutOfMemory>
+    ensures { OnOk result (out.new.items ≡ out.old.items ++ settled_lines part.now best.now within) }
+{
+    push_settled_line(out, within)?;
+    push_part(out, alloc, part)?;
+    push_incumbent(out, best)
+}
+
+/// Appends the first line of such a report.
+fn push_settled_line(out: &mut Vec<u8>, within: i64) -> Result<(), OutOfMemory>
+    ensures { OnOk result (out.new.items ≡ out.old.items ++ settled_line within) }
+{
+    if within > 0 {
+        push_number_line(out, "settled within", within)
+    } else {
+        push_line(out, "settled")
+    }
+}
+
+/// Appends which part was searched, and of which journal.
+fn push_part(out: &mut Vec<u8>, alloc: Global, part: &SearchedPart) -> Result<(), OutOfMemory>
+    ensures { OnOk result (out.new.items ≡ out.old.items ++ part_lines part.now) }
+{
+    push_text(out, "part ")?;
+    push_count(out, u64::from(part.index))?;
+    push_text(out, "/")?;
+    push_count(out, u64::from(part.of))?;
+    push_text(out, "\njournal ")?;
+    push_digest(out, alloc, &part.digest)
+}
+
+/// Appends why reports are not joined.
+fn push_report_refusal(out: &mut Vec<u8>, refusal: ReportRefusal) -> Result<(), OutOfMemory>
+    ensures { OnOk result (out.new.items ≡ out.old.items ++ report_refusal_line refusal) }
+{
+    match refusal {
+        ReportRefusal::Order { index } => push_count_line(out, "reports order", index),
+        ReportRefusal::Journal { index } => push_count_line(out, "reports journal", index),
+        ReportRefusal::Distance { index } => push_count_line(out, "reports distance", index),
+        ReportRefusal::Value { index } => push_count_line(out, "reports value", index),
     }
 }
 

@@ -15,7 +15,7 @@ use Rattle.problem_names.specs.declared.part.PartNumber.{PartNumber}
 use Rattle.problem_names.specs.declared.part.TheConstants.{MOST_PARTS}
 use Rattle.problem_names.specs.Parts.{IsPart, MayBePart}
 use Rattle.solver_words.specs.Grammar.{Argument, Text, has_flag, line_of, setting_of, words_of}
-use Rattle.solver_words.specs.Words.{IsAnswer, JobView, Refusal, and_then, asked, by_command, check_line, check_syntax, cut_of, digest_line, digest_of, digest_syntax, generate, generate_line, generate_of, generate_syntax, is_refused, extended, job_view, join_line, join_syntax, meaning, model_of, optional, or_default, or_model, or_number, part_asked, part_written, positional_number, ranged, resume_line, resume_of, resume_syntax, searched, settings_of, solve, solve_line, solve_of, solve_syntax, usage}
+use Rattle.solver_words.specs.Words.{IsAnswer, JobView, Refusal, and_then, asked, by_command, check_line, check_syntax, cut_of, digest_line, digest_of, digest_syntax, generate, generate_line, generate_of, generate_syntax, is_refused, extended, job_view, join_line, join_of, join_syntax, meaning, model_of, optional, or_default, or_model, or_number, part_asked, part_written, positional_number, ranged, resume_line, resume_of, resume_syntax, searched, settings_of, solve, solve_line, solve_of, solve_syntax, split_by, split_line, split_of, split_syntax, usage}
 use Rattle.solver_words.specs.declared.job.Job.{Job}
 use Rattle.solver_words.specs.declared.job.JobSettings.{JobSettings}
 use Rattle.solver_words.specs.declared.limits.TheConstants.{MOST_COVER_WORDS, MOST_LAYER_PARTS}
@@ -162,6 +162,18 @@ resume-asked : (path : Option Text) (value : Text → Option Text) (flag : Text 
 resume-asked None value flag = tt
 resume-asked (Some path) value flag = next AreExact IsPossible _ (λ settings exact. (may-exactly settings exact, exact.3)) (settings_of value (flag (codes "stats"))) (settings-exact value (flag (codes "stats")))
 
+given-asked : (path : Text) (part : Option PartNumber) → MayBePart part → IfOk (split_by path part) IsPossible
+given-asked path None is = tt
+given-asked path (Some part) is = is
+
+split-asked : (path part : Option Text) → IfOk (split_of path part) IsPossible
+split-asked None part = tt
+split-asked (Some path) part = next MayBePart IsPossible (split_by path) (given-asked path) (part_asked part) (part-asked part)
+
+join-asked : (journal : Option Text) → IsPossible (join_of journal)
+join-asked None = tt
+join-asked (Some path) = tt
+
 digest-asked : (name : Option Text) → IfOk (digest_of name) IsPossible
 digest-asked name = following IsPossible _ (λ model. tt) (model_of name)
 
@@ -189,10 +201,11 @@ command-asked : (command : Text) (ws : List Text) → IfOk (by_command command w
 command-asked command ws =
     either IsPossible (bytes_eq command (codes "solve")) _ _ (line-asked solve_line (λ a. solve-asked (slice_get (words_of a) 0) (λ n. setting_of n a) (λ n. has_flag n a)) (line_of solve_syntax ws))
     (either IsPossible (bytes_eq command (codes "resume")) _ _ (line-asked resume_line (λ a. resume-asked (slice_get (words_of a) 0) (λ n. setting_of n a) (λ n. has_flag n a)) (line_of resume_syntax ws))
+    (either IsPossible (bytes_eq command (codes "split")) _ _ (line-asked split_line (λ a. split-asked (slice_get (words_of a) 0) (setting_of (codes "part") a)) (line_of split_syntax ws))
     (either IsPossible (bytes_eq command (codes "check")) _ _ (line-asked check_line (λ a. tt) (line_of check_syntax ws))
-    (either IsPossible (bytes_eq command (codes "join")) _ _ (line-asked join_line (λ a. tt) (line_of join_syntax ws))
+    (either IsPossible (bytes_eq command (codes "join")) _ _ (line-asked join_line (λ a. join-asked (setting_of (codes "journal") a)) (line_of join_syntax ws))
     (either IsPossible (bytes_eq command (codes "digest")) _ _ (line-asked digest_line (λ a. digest-asked (slice_get (words_of a) 0)) (line_of digest_syntax ws))
-    (either IsPossible (bytes_eq command (codes "generate")) _ _ (line-asked generate_line (λ a. generate-asked (slice_get (words_of a) 0) (slice_get (words_of a) 1) (slice_get (words_of a) 2) (has_flag (codes "solve") a)) (line_of generate_syntax ws)) tt)))))
+    (either IsPossible (bytes_eq command (codes "generate")) _ _ (line-asked generate_line (λ a. generate-asked (slice_get (words_of a) 0) (slice_get (words_of a) 1) (slice_get (words_of a) 2) (has_flag (codes "solve") a)) (line_of generate_syntax ws)) tt))))))
 
 meaning-asked : (words : List Text) → IfOk (meaning words) IsPossible
 meaning-asked [] = tt

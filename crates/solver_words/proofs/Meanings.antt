@@ -20,7 +20,7 @@ use Rattle.solver_words.specs.declared.words_error.WordsError.{WordsError}
 use Rattle.solver_words.specs.declared.words_error.WordsError.TheVariants.{Usage, Model, Number, Cutset, OutOfMemory}
 use Rattle.solver_words.specs.Grammar.{Syntax, Argument, Text, contains, has_flag, setting_of, words_of}
 use Rattle.solver_words.specs.Commands.{IsOutside, RowsTell, Tells}
-use Rattle.solver_words.specs.Words.{IsAnswer, by_command, meaning, is_refused, last_is_equals, asked, digest, digest_syntax, digest_line, usage, Refusal, JobView, and_then, digest_of, extended, model_of, or_model, positional_number, optional, cover_of, generate, part_asked, resume, refusal_of, job_view, generate_syntax, generate_line, generate_of, resume_syntax, resume_line, resume_of, searched, settings_of, solve_syntax, solve_line}
+use Rattle.solver_words.specs.Words.{IsAnswer, by_command, meaning, is_refused, last_is_equals, asked, digest, digest_syntax, digest_line, usage, Refusal, JobView, and_then, digest_of, extended, model_of, or_model, positional_number, optional, cover_of, generate, part_asked, resume, refusal_of, job_view, generate_syntax, generate_line, generate_of, join_line, join_of, join_syntax, resume_syntax, resume_line, resume_of, split_by, split_line, split_of, split_syntax, searched, settings_of, solve_syntax, solve_line}
 
 -- what the matches tell of a line
 module _ (f : Syntax) (arguments : List Argument) (m : ArgMatches) (reads : RowsTell f arguments (rows_of (found_of m))) where
@@ -193,7 +193,7 @@ module _ (m : ArgMatches) (arguments : List Argument) (reads : RowsTell solve_sy
               let is : cover ≡ has_flag (codes "cover") arguments = wanted (has_flag (codes "cover") arguments) (flag_read solve_syntax arguments m reads (codes "cover") refl) in
               rw (at_model, at_settings, at_cover, at_distance, at_part, at_journal, ← is) refl
 
--- ---- resume and digest
+-- ---- resume
 
 module _ (m : ArgMatches) (arguments : List Argument) (reads : RowsTell resume_syntax arguments (rows_of (found_of m))) where
   abbrev to_resume : Option Text → Result JobView Refusal
@@ -229,6 +229,38 @@ module _ (m : ArgMatches) (arguments : List Argument) (reads : RowsTell resume_s
 
     pub resume_all : (settings : JobSettings) → settings_of (first_value (found_of m)) stats ≡ Ok settings → resume_line arguments ≡ Ok (resume path settings)
     resume_all settings d = let there = sym same_settings ∙ d in rw (here, there) refl
+
+-- ---- split and join
+
+module _ (m : ArgMatches) (arguments : List Argument) (reads : RowsTell split_syntax arguments (rows_of (found_of m))) where
+  split_read : first_value (found_of m) (codes "path") ≡ slice_get (words_of arguments) 0
+  split_read = word_read split_syntax arguments m reads 0 (codes "path") refl
+
+  pub split_no_path : None ≡ first_value (found_of m) (codes "path") → split_line arguments ≡ Err usage
+  split_no_path e = ap (λ path. split_of path (setting_of (codes "part") arguments)) (sym (e ∙ split_read))
+
+  module _ (path : Text) (at : Some path ≡ first_value (found_of m) (codes "path")) where
+    path_here : slice_get (words_of arguments) 0 ≡ Some path
+    path_here = sym (at ∙ split_read)
+
+    asked_same : part_asked (first_value (found_of m) (codes "part")) ≡ part_asked (setting_of (codes "part") arguments)
+    asked_same = ap part_asked (value_read split_syntax arguments m reads (codes "part") refl)
+
+    pub split_no_part : (r : Result Job WordsError) (e : WordsError) → IsErrAnd r (λ y. y ≡ e)
+        → IfSome (refusal_of e) (λ why. part_asked (first_value (found_of m) (codes "part")) ≡ Err why) → IsAnswer job_view (split_line arguments) r
+    split_no_part r e is h =
+        gives_up job_view (split_line arguments) r e is
+        (rw path_here (fails (split_by path) (part_asked (setting_of (codes "part") arguments)) (refusal_of e)
+        (moved (part_asked (first_value (found_of m) (codes "part"))) (part_asked (setting_of (codes "part") arguments)) (refusal_of e) asked_same h)))
+
+    pub split_all : (part : Option PartNumber) → part_asked (first_value (found_of m) (codes "part")) ≡ Ok part → split_line arguments ≡ split_by path part
+    split_all part h = let there = sym asked_same ∙ h in rw (path_here, there) refl
+
+pub join_is : (m : ArgMatches) (arguments : List Argument) → RowsTell join_syntax arguments (rows_of (found_of m)) → (journal : Option Text) → journal ≡ first_value (found_of m) (codes "journal")
+    → join_line arguments ≡ Ok (join_of journal)
+join_is m arguments reads journal e = ap (λ o. Ok (join_of o)) (sym (e ∙ value_read join_syntax arguments m reads (codes "journal") refl))
+
+-- ---- digest
 
 module _ (m : ArgMatches) (arguments : List Argument) (reads : RowsTell digest_syntax arguments (rows_of (found_of m))) where
   digest_same : digest_of (first_value (found_of m) (codes "model")) ≡ digest_line arguments
@@ -299,12 +331,13 @@ other_name a b other = by (bytes_eq a b) refl
     by false e = e
     by true e = absurd (other (are_same a b e))
 
-pub no_command : (c : Text) (ws : List Text) → (c ≡ codes "solve" → ⊥) → (c ≡ codes "resume" → ⊥) → (c ≡ codes "check" → ⊥) → (c ≡ codes "join" → ⊥) → (c ≡ codes "digest" → ⊥) → (c ≡ codes "generate" → ⊥)
+pub no_command : (c : Text) (ws : List Text) → (c ≡ codes "solve" → ⊥) → (c ≡ codes "resume" → ⊥) → (c ≡ codes "split" → ⊥) → (c ≡ codes "check" → ⊥) → (c ≡ codes "join" → ⊥) → (c ≡ codes "digest" → ⊥) → (c ≡ codes "generate" → ⊥)
     → by_command c ws ≡ Err usage
-no_command c ws a b d j e g =
+no_command c ws a b s d j e g =
     rw (
       other_name c (codes "solve") a,
       other_name c (codes "resume") b,
+      other_name c (codes "split") s,
       other_name c (codes "check") d,
       other_name c (codes "join") j,
       other_name c (codes "digest") e,

@@ -6,7 +6,7 @@ use Rattle.problem_names.specs.declared.ModelName.{ModelName}
 use Rattle.problem_names.specs.declared.Sizes.{Sizes}
 use Rattle.problem_names.specs.ModelNames.{sizes_of}
 use Rattle.problem_names.specs.Parts.{IsPart}
-use Rattle.solver_words.specs.Words.{JobView, solve, resume, check, join, digest, generate}
+use Rattle.solver_words.specs.Words.{JobView, solve, resume, split, check, join, join_reports, digest, generate}
 use Rattle.solver_words.specs.declared.job.JobSettings.{JobSettings}
 use Rattle.solver_words.specs.declared.limits.TheConstants.{MOST_LAYER_PARTS}
 
@@ -31,15 +31,17 @@ pub record MayDraw (name : ModelName) (n seed : ℕ) : Type 0 where
   pub most : n ≤ sizes.most
   pub seeded : seed < 2 ^ 31
 
--- where a job is a search it may be made so, of a part only where no journal is kept, with no cover where a journal goes on, and what is to be drawn can
--- be drawn
+-- where a job is a search it may be made so, of a part only where no journal is kept, with no cover where a journal goes on; a part that is split off is
+-- one of its parts, and what is to be drawn can be drawn
 abbrev pub IsPossible : JobView → Type 0
 IsPossible (solve model settings None None) = MaySearch settings
 IsPossible (solve model settings None (Some part)) = MaySearchExactly settings × IsPart part
 IsPossible (solve model settings (Some path) None) = MaySearch settings
 IsPossible (solve model settings (Some path) (Some part)) = ⊥
 IsPossible (resume path settings) = MaySearchExactly settings × (settings.cover_words ≡ None)
+IsPossible (split path part) = IsPart part
 IsPossible check = Unit {0}
 IsPossible join = Unit {0}
+IsPossible (join_reports path) = Unit {0}
 IsPossible (digest model) = Unit {0}
 IsPossible (generate model n seed solved) = MayDraw model n seed

@@ -12,7 +12,7 @@ use Rattle.dp_model.specs.declared.limits.TheConstants.{MOST_DISTANCE, MOST_WIDT
 use Rattle.problem_names.specs.ModelNames.{model_named, sizes_of}
 use Rattle.solver_words.specs.Grammar.{Syntax, Argument, Text, has_flag, line_of, setting_of, words_of}
 use Rattle.solver_words.specs.declared.job.Job.{Job}
-use Rattle.solver_words.specs.declared.job.Job.TheVariants.{Solve, Resume, Check, Join, Digest, Generate}
+use Rattle.solver_words.specs.declared.job.Job.TheVariants.{Solve, Resume, Split, Check, Join, JoinReports, Digest, Generate}
 use Rattle.solver_words.specs.declared.job.JobSettings.{JobSettings}
 use Rattle.solver_words.specs.declared.limits.TheConstants.{DEFAULT_COVER_WORDS, MOST_COVER_WORDS, MOST_LAYER_PARTS}
 use Rattle.solver_words.specs.declared.words_error.WordsError.{WordsError}
@@ -34,11 +34,14 @@ resume_syntax = record {
   flags = codes "stats" ∷ [];
 }
 
+abbrev pub split_syntax : Syntax
+split_syntax = record { positional = codes "path" ∷ []; valued = codes "part" ∷ []; flags = [] }
+
 abbrev pub check_syntax : Syntax
 check_syntax = record { positional = []; valued = []; flags = [] }
 
 abbrev pub join_syntax : Syntax
-join_syntax = record { positional = []; valued = []; flags = [] }
+join_syntax = record { positional = []; valued = codes "journal" ∷ []; flags = [] }
 
 abbrev pub digest_syntax : Syntax
 digest_syntax = record { positional = codes "model" ∷ []; valued = []; flags = [] }
@@ -51,8 +54,10 @@ generate_syntax = record { positional = codes "model" ∷ codes "n" ∷ codes "s
 pub data JobView : Type 0 where
   solve : ModelName → JobSettings → Option Text → Option PartNumber → JobView
   resume : Text → JobSettings → JobView
+  split : Text → PartNumber → JobView
   check : JobView
   join : JobView
+  join_reports : Text → JobView
   digest : ModelName → JobView
   generate : ModelName → ℕ → ℕ → Bool → JobView
 
@@ -66,8 +71,10 @@ pub data Refusal : Type 0 where
 abbrev pub job_view : Job → JobView
 job_view (Solve name settings journal part) = solve name settings (option_map string_bytes journal) part
 job_view (Resume path settings) = resume (string_bytes path) settings
+job_view (Split path part) = split (string_bytes path) part
 job_view Check = check
 job_view Join = join
+job_view (JoinReports path) = join_reports (string_bytes path)
 job_view (Digest name) = digest name
 job_view (Generate name n seed solved) = generate name n seed solved
 
@@ -202,6 +209,20 @@ abbrev pub resume_of : Option Text → (Text → Option Text) → (Text → Bool
 resume_of None value flag = Err usage
 resume_of (Some path) value flag = and_then (λ settings. Ok (resume path settings)) (settings_of value (flag (codes "stats")))
 
+-- a split of a journal, of which a part has to be asked for
+abbrev pub split_by : Text → Option PartNumber → Result JobView Refusal
+split_by path None = Err usage
+split_by path (Some part) = Ok (split path part)
+
+abbrev pub split_of : Option Text → Option Text → Result JobView Refusal
+split_of None part = Err usage
+split_of (Some path) part = and_then (split_by path) (part_asked part)
+
+-- reports are joined where the journal of the search is given, and otherwise outputs with covers
+abbrev pub join_of : Option Text → JobView
+join_of None = join
+join_of (Some path) = join_reports path
+
 abbrev pub digest_of : Option Text → Result JobView Refusal
 digest_of name = and_then (λ name. Ok (digest name)) (model_of name)
 
@@ -230,11 +251,14 @@ solve_line arguments = solve_of (slice_get (words_of arguments) 0) (λ n. settin
 abbrev pub resume_line : List Argument → Result JobView Refusal
 resume_line arguments = resume_of (slice_get (words_of arguments) 0) (λ n. setting_of n arguments) (λ n. has_flag n arguments)
 
+abbrev pub split_line : List Argument → Result JobView Refusal
+split_line arguments = split_of (slice_get (words_of arguments) 0) (setting_of (codes "part") arguments)
+
 abbrev pub check_line : List Argument → Result JobView Refusal
 check_line arguments = Ok check
 
 abbrev pub join_line : List Argument → Result JobView Refusal
-join_line arguments = Ok join
+join_line arguments = Ok (join_of (setting_of (codes "journal") arguments))
 
 abbrev pub digest_line : List Argument → Result JobView Refusal
 digest_line arguments = digest_of (slice_get (words_of arguments) 0)
@@ -251,10 +275,11 @@ abbrev pub by_command : Text → List Text → Result JobView Refusal
 by_command command ws =
     cond (bytes_eq command (codes "solve")) (asked solve_line (line_of solve_syntax ws))
     (cond (bytes_eq command (codes "resume")) (asked resume_line (line_of resume_syntax ws))
+    (cond (bytes_eq command (codes "split")) (asked split_line (line_of split_syntax ws))
     (cond (bytes_eq command (codes "check")) (asked check_line (line_of check_syntax ws))
     (cond (bytes_eq command (codes "join")) (asked join_line (line_of join_syntax ws))
     (cond (bytes_eq command (codes "digest")) (asked digest_line (line_of digest_syntax ws))
-    (cond (bytes_eq command (codes "generate")) (asked generate_line (line_of generate_syntax ws)) (Err usage))))))
+    (cond (bytes_eq command (codes "generate")) (asked generate_line (line_of generate_syntax ws)) (Err usage)))))))
 
 abbrev pub last_is_equals : ℕ → List ℕ → Bool
 last_is_equals b [] = b == 61

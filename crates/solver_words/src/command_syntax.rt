@@ -30,6 +30,12 @@ pub(crate) const RESUME: CommandSyntax = CommandSyntax {
     flags: &["stats"],
 };
 
+pub(crate) const SPLIT: CommandSyntax = CommandSyntax {
+    positional: &["path"],
+    valued: &["part"],
+    flags: &[],
+};
+
 pub(crate) const CHECK: CommandSyntax = CommandSyntax {
     positional: &[],
     valued: &[],
@@ -38,7 +44,7 @@ pub(crate) const CHECK: CommandSyntax = CommandSyntax {
 
 pub(crate) const JOIN: CommandSyntax = CommandSyntax {
     positional: &[],
-    valued: &[],
+    valued: &["journal"],
     flags: &[],
 };
 

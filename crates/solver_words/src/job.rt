@@ -40,10 +40,20 @@ pub enum Job {
         path: String,
         settings: JobSettings,
     },
+    /// Print a part of the search that was stopped and whose journal is in the file `path`: a journal with which a search of the part
+    /// goes on.
+    Split {
+        path: String,
+        part: PartNumber,
+    },
     /// Check the report and the cover in the input.
     Check,
     /// Join the reports and the covers of all parts of a problem, one after another in the input.
     Join,
+    /// Join the reports of all parts of the search whose journal is in the file `path`. They stand one after another in the input.
+    JoinReports {
+        path: String,
+    },
     /// Print the digest of the canonical text of the instance in the input.
     Digest {
         model: ModelName,

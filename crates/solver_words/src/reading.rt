@@ -6,11 +6,11 @@ ghost use Rattle.dp_model.specs.declared.limits.TheConstants.{MOST_DISTANCE};
 ghost use Rattle.problem_names.specs.ModelNames.{sizes_of};
 ghost use Rattle.solver_words.specs.Grammar.{Argument, line_of};
 ghost use Rattle.solver_words.specs.Commands.{RowsTell};
-ghost use Rattle.solver_words.specs.Words.{IsAnswer, asked, cover_of, extended, job_view, or_model, solve_syntax, solve_line, resume_syntax, resume_line, check_syntax, check_line, join_syntax, join_line, digest_syntax, digest_line, generate_syntax, generate_line, is_refused, meaning, searched};
+ghost use Rattle.solver_words.specs.Words.{IsAnswer, asked, cover_of, extended, job_view, or_model, solve_syntax, solve_line, resume_syntax, resume_line, split_syntax, split_line, check_syntax, check_line, join_syntax, join_line, digest_syntax, digest_line, generate_syntax, generate_line, is_refused, meaning, searched};
 ghost use Rattle.solver_words.specs.Possible.{IsPossible};
 
 use crate::command::parse;
-use crate::command_syntax::{CHECK, DIGEST, GENERATE, JOIN, RESUME, SOLVE};
+use crate::command_syntax::{CHECK, DIGEST, GENERATE, JOIN, RESUME, SOLVE, SPLIT};
 use crate::job::{Job, JobSettings};
 use crate::limits::{DEFAULT_COVER_WORDS, MOST_COVER_WORDS};
 use crate::values::{is_given, read_model, read_optional, read_part, read_placed, read_settings};
@@ -24,8 +24,8 @@ use std::alloc::{AllocError, Global};
 ///
 /// # Errors
 ///
-/// - `Usage` exactly if the words are outside the grammar, or if all values are good and a search of a part is to keep a journal or has a
-///   distance above 0.
+/// - `Usage` exactly if the words are outside the grammar, if a search is to be split and no part is given, or if all values are good and
+///   a search of a part is to keep a journal or has a distance above 0.
 /// - Otherwise `Model` exactly if the problem is not known, or has no drawn instances and one is asked for.
 /// - Otherwise `Number` with its name, or `Cutset`, for the first bad value, in the order of the values.
 /// - `OutOfMemory` at any words.
@@ -52,6 +52,7 @@ fn read_command(alloc: Global, words: &[String]) -> Result<Job, WordsError>
     match command.as_str() {
         "solve" => read_solve(alloc, words),
         "resume" => read_resume(alloc, words),
+        "split" => read_split(alloc, words),
         "check" => read_check(alloc, words),
         "join" => read_join(alloc, words),
         "digest" => read_digest(alloc, words),
@@ -172,6 +173,28 @@ fn resume_job(alloc: Global, matches: &ArgMatches) -> Result<Job, WordsError>
     Ok(Job::Resume { path, settings })
 }
 
+fn read_split(alloc: Global, words: &[String]) -> Result<Job, WordsError>
+    requires { 0 < length words.now }
+    ensures { IsAnswer job_view (asked split_line (line_of split_syntax (drop 1 (map string_bytes words.now)))) result }
+{
+    let matches = parse(alloc, &SPLIT, words)?;
+    split_job(alloc, &matches)
+}
+
+/// The search that is to be split, and the part that is asked for.
+fn split_job(alloc: Global, matches: &ArgMatches) -> Result<Job, WordsError>
+    ensures { (arguments : List Argument) → RowsTell split_syntax arguments (rows_of (found_of matches.now)) → IsAnswer job_view (split_line arguments) result }
+{
+    let Some(path) = matches.get_str("path") else {
+        return Err(WordsError::Usage);
+    };
+    let Some(part) = read_part(matches)? else {
+        return Err(WordsError::Usage);
+    };
+    let path = String::from_str(alloc, path)?;
+    Ok(Job::Split { path, part })
+}
+
 fn read_check(alloc: Global, words: &[String]) -> Result<Job, WordsError>
     requires { 0 < length words.now }
     ensures { IsAnswer job_view (asked check_line (line_of check_syntax (drop 1 (map string_bytes words.now)))) result }
@@ -184,8 +207,19 @@ fn read_join(alloc: Global, words: &[String]) -> Result<Job, WordsError>
     requires { 0 < length words.now }
     ensures { IsAnswer job_view (asked join_line (line_of join_syntax (drop 1 (map string_bytes words.now)))) result }
 {
-    parse(alloc, &JOIN, words)?;
-    Ok(Job::Join)
+    let matches = parse(alloc, &JOIN, words)?;
+    join_job(alloc, &matches)
+}
+
+/// What is to be joined: the reports of the parts of a search, where its journal is given, or else outputs with covers.
+fn join_job(alloc: Global, matches: &ArgMatches) -> Result<Job, WordsError>
+    ensures { (arguments : List Argument) → RowsTell join_syntax arguments (rows_of (found_of matches.now)) → IsAnswer job_view (join_line arguments) result }
+{
+    let Some(path) = matches.get_str("journal") else {
+        return Ok(Job::Join);
+    };
+    let path = String::from_str(alloc, path)?;
+    Ok(Job::JoinReports { path })
 }
 
 fn read_digest(alloc: Global, words: &[String]) -> Result<Job, WordsError>

@@ -20,6 +20,13 @@ returns-in-resume c =
     (meaning_is c.args.words.now c.command-item.result c.as_str.result.now (omega arith) c.command-item.is c.as_str.ensures.value (test_is c.args.words.now c.has_refused.result c.has_refused.ensures ∙ c.if-has_refused.false))
     c.in-resume.is c.read_resume.ensures
 
+pub returns-in-split : goal.returns-in-split
+returns-in-split c =
+    let words = map string_bytes c.args.words.now in
+    by_name (meaning words) c.as_str.result.now (codes "split") (drop 1 words) c.read_split.result
+    (meaning_is c.args.words.now c.command-item.result c.as_str.result.now (omega arith) c.command-item.is c.as_str.ensures.value (test_is c.args.words.now c.has_refused.result c.has_refused.ensures ∙ c.if-has_refused.false))
+    c.in-split.is c.read_split.ensures
+
 pub returns-in-check : goal.returns-in-check
 returns-in-check c =
     let words = map string_bytes c.args.words.now in
@@ -53,4 +60,4 @@ returns-in_default-as_str c =
     let words = map string_bytes c.args.words.now in
     let other = c.in_default-as_str in
     meaning_is c.args.words.now c.command-item.result c.as_str.result.now (omega arith) c.command-item.is c.as_str.ensures.value (test_is c.args.words.now c.has_refused.result c.has_refused.ensures ∙ c.if-has_refused.false)
-    ∙ no_command c.as_str.result.now (drop 1 words) other.not-solve other.not-resume other.not-check other.not-join other.not-digest other.not-generate
+    ∙ no_command c.as_str.result.now (drop 1 words) other.not-solve other.not-resume other.not-split other.not-check other.not-join other.not-digest other.not-generate
