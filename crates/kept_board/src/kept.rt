@@ -239,8 +239,8 @@ impl<M: DpModel, D: Disk> Kept<M, D> {
         }
     }
 
-    /// Whether a snapshot is due: there is a journal of version 2, as many subproblems as `new` says were finished since its last
-    /// snapshot, or since its head where there is none, and at most 1,000,000 subproblems are open or out.
+    /// Whether a snapshot is due: there is a journal of version 2, or of a part of a search, as many subproblems as `new` says were finished
+    /// since its last snapshot, or since its head where there is none, and at most 1,000,000 subproblems are open or out.
     pub fn snapshot_due(&self) -> bool
         ensures { result ≡ is_due self.now }
     {

@@ -4,7 +4,8 @@
 //! `Kept` holds a board of `board` beside a disk, and offers the steps of the board. Its record is added by `journal_file`,
 //! whose crash clauses it hands on: a crash at any moment leaves a file with the records from before, or these and the new one.
 //! What `journal_replay` makes of the records is the board all along, so whoever reads such a file has what was acknowledged. After this many
-//! finished subproblems a snapshot of the board is due: with it a reader begins there, and not at the start of the search.
+//! finished subproblems a snapshot of the board is due: with it a reader begins there, and not at the start of the search. The journal of a
+//! part of a search takes snapshots too. `snapshot_of` gives the snapshot of a board that is in no journal.
 //! After a turn of `turn` a move is one step with its record; without a journal it is a board like any other.
 //!
 //! ```
@@ -32,4 +33,5 @@ pub use error::KeptError;
 pub use kept::Kept;
 pub use laws::{fronts_are_added, histories_leave};
 pub use limits::MOST_LISTED;
+pub use snapshots::snapshot_of;
 pub use tag::KeptTag;
