@@ -1,7 +1,9 @@
-//! Tests of the reports of parts, over a real problem.
+//! Tests of the reports of parts, over a real problem, and of their texts.
 //!
-//! It stands on `part_reports` and on the knapsack.
+//! It stands on `part_reports` and on the knapsack, and on `part_text` for the texts.
 #![tactic(auto)]
 
+#[cfg(test)]
+mod report_texts;
 #[cfg(test)]
 mod reports;

@@ -1,0 +1,5 @@
+pub mod Grammar
+pub mod Written
+pub mod Reports
+pub mod Printed
+pub mod Told
