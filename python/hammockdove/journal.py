@@ -28,7 +28,8 @@ _PART_VERSION = 3
 _FRAMING = 1 + _FRAME.size + _DIGEST_BYTES
 
 
-class Part(NamedTuple):
+@dataclass(frozen=True)
+class Part:
     """A part of a search that was split: its number from 0 on, how many parts there are, and the digest of the journal that was split.
 
     `digest` is that of the last record of that journal, in hexadecimal: `Journal.digest` once all of it is read.

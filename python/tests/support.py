@@ -4,6 +4,7 @@ import hashlib
 import itertools
 import os
 import struct
+import subprocess
 import tempfile
 import unittest
 from pathlib import Path
@@ -16,6 +17,13 @@ BUILT = TOP / "crates/solver_cli/out/solver_cli"
 PROGRAM = os.environ.get("HAMMOCKDOVE") or (str(BUILT) if os.access(BUILT, os.X_OK) else None)
 
 needs_program = unittest.skipUnless(PROGRAM, "no program is built: rt ci builds it, or HAMMOCKDOVE names it")
+
+def can_split():
+    """Whether the program has the words of parts of a search."""
+    with tempfile.TemporaryDirectory() as room:
+        words = [PROGRAM, "split", "none", "--part", "0/1"]
+        return PROGRAM is not None and subprocess.run(words, cwd=room, capture_output=True, check=False).stdout != b"words usage\n"
+
 
 TEXT = b"3 10\n60 5\n50 4\n70 6\n"
 NO_TICKET = 2**64 - 1

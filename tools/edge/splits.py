@@ -24,11 +24,11 @@ from edge import content, prepare, run
 from together import begin, end
 
 from hammockdove import PROBLEMS, HammockdoveError
-from hammockdove.journal import Journal, Snapshot, read
+from hammockdove.journal import Journal, Part, Snapshot, read
 from hammockdove.progress import Tracker
 
 # The sizes of drawn instances that leave many subproblems at these widths.
-SIZES = {"knapsack": (20, 60), "maxcut": (16, 26), "max2sat": (16, 28), "qubo": (14, 24), "tsptw": (8, 16), "tardiness": (7, 13)}
+SIZES = {"knapsack": (24, 60), "maxcut": (18, 26), "max2sat": (18, 28), "qubo": (16, 24), "tsptw": (9, 16), "tardiness": (8, 13)}
 MOST_WIDTH = 4
 MOST_PARTS = 9
 MOST_WORKERS = 4
@@ -84,18 +84,19 @@ class Search:
 
     def try_all(self):
         """Solves the instance, stops a search of it, splits that, and joins its parts."""
-        given = run(self.program, self.words, self.folder)[1]
-        self.instance = PROBLEMS[self.model].from_text(given.decode())
-        began, options = time.monotonic(), self.options()
-        whole = run(self.program, "solve %s --stats%s" % (self.model, options), self.folder, given)[:2]
-        self.seconds = time.monotonic() - began
-        self.finished = int(whole[1].split()[-1])
-        self.best = self.value_of(whole, 0)
+        given, options = run(self.program, self.words, self.folder)[1], self.options()
+        self.solve(given, options)
+        if self.model == "tsptw" and self.draw.random() < 0.4:
+            # Node 0 closes just before the earliest return.
+            given = given.replace(b"\n%d %d\n" % self.instance.windows[0], b"\n%d %d\n" % (self.instance.windows[0][0], -self.best - 1))
+            self.words += ", infeasible"
+            self.solve(given, options)
+            claim(self.best is None, "a tour that returns too late", self.best)
         if self.other:
             told = run(self.other, "solve " + self.model, self.folder, given)[:2]
             claim(told[1] == b"words model\n" or self.value_of(told, 0) == self.best, "the other program answers", told)
             self.seen["compared with the other program"] += told[1] != b"words model\n"
-        budget = self.draw.randint(0, self.finished)
+        budget = min(self.draw.randint(0, self.finished) for _ in range(2))
         within = " --within %d" % self.within if self.within else ""
         stopped = run(self.program, "solve %s --journal j --budget %d%s%s" % (self.model, budget, within, options), self.folder, given)[:2]
         claim(stopped[0] in (0, 1, 2), "the search that is split ended", stopped)
@@ -108,9 +109,19 @@ class Search:
         self.seen["infeasible"] += value is None
         self.refusals("j", reports)
 
+    def solve(self, given, options):
+        """The answer to the instance, with the time and the subproblems that it takes."""
+        self.instance = PROBLEMS[self.model].from_text(given.decode())
+        began = time.monotonic()
+        whole = run(self.program, "solve %s --stats%s" % (self.model, options), self.folder, given)[:2]
+        self.seconds = time.monotonic() - began
+        self.finished = int(whole[1].split()[-1])
+        self.best = self.value_of(whole, 0)
+
     def options(self):
         """Options of a search, drawn anew for each."""
-        drawn = " --width %d --workers %d" % (self.draw.randint(1, MOST_WIDTH), self.draw.randint(1, MOST_WORKERS))
+        width = min(self.draw.randint(1, MOST_WIDTH) for _ in range(2))
+        drawn = " --width %d --workers %d" % (width, self.draw.randint(1, MOST_WORKERS))
         return drawn + (" --cutset frontier" if self.draw.random() < 0.3 else "")
 
     def value_of(self, ended, within):
@@ -156,7 +167,7 @@ class Search:
         tickets, counts, incumbents = [], [], set()
         for index, part in enumerate(parts):
             head, entries = read(self.path(part))
-            claim(head.part == (index, len(parts), digest) and head.within == self.within, "the head of a part", head.part, head.within)
+            claim(head.part == Part(index, len(parts), digest) and head.within == self.within, "the head of a part", head.part, head.within)
             claim(len(entries) == 1 and isinstance(entries[0].record, Snapshot), "the records of a part", entries)
             listed = entries[0].record.subproblems
             tickets += [it.ticket for it in listed]
@@ -199,7 +210,7 @@ class Search:
         claim(read(self.path(part))[0] == head, "another head")
         if status == 2:
             found = STOPPED.fullmatch(output.decode())
-            claim(found and found[3] == head.part.digest and (int(found[1]), int(found[2])) == head.part[:2], words, output)
+            claim(found and Part(int(found[1]), int(found[2]), found[3]) == head.part, words, output)
             self.seen["parts that were stopped"] += 1
         else:
             claim(status in (0, KILLED), words, status, output)
@@ -209,10 +220,10 @@ class Search:
         """Whether it is what a part with this number has settled."""
         found = SETTLED.fullmatch(report.decode())
         claim(found and int(found[1] or 0) == self.within, "a report", report)
-        claim((int(found[2]), int(found[3]), found[4]) == (index, of, digest), "a report of another part", report)
+        claim(Part(int(found[2]), int(found[3]), found[4]) == Part(index, of, digest), "a report of another part", report)
         if found[5] is not None:
             self.is_solution(int(found[5]), found[6])
-            claim(int(found[5]) <= self.best, "a value above the best", report)
+            claim(self.best is not None and int(found[5]) <= self.best, "a value above the best", report)
 
     def joined(self, name, reports):
         """Status and output of a join, which changes no file."""
