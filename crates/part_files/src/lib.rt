@@ -12,6 +12,8 @@
 
 mod error;
 mod sizes;
+#[cfg(test)]
+mod tests;
 mod writing;
 
 pub use error::PartError;
