@@ -233,6 +233,8 @@ def error_of(text: bytes, status: int, given: bytes = b"") -> HammockdoveError:
     words = answer.split()
     if answer == "input too-long":
         return InputTooLong(answer, status, "the input is longer than what the program reads")
+    if answer == "part too-long":
+        return InputTooLong(answer, status, "a record of the part is longer than what a journal holds")
     if words[0] == "instance" and len(words) == 4:
         line, column = int(words[2]), int(words[3])
         return InstanceRefused(answer, status, words[1], line, column, _excerpt(given, line))

@@ -82,7 +82,7 @@ class ReportsRefused(Refused):
 
 
 class InputTooLong(Refused):
-    """The input is longer than what the program reads: 2^26 bytes, or 2^28 bytes for `check` and `join`."""
+    """The input is longer than what the program reads: 2^26 bytes, or 2^28 bytes for `check` and `join`; or a part does not fit in a journal."""
 
 
 class UnknownProblem(Refused):

@@ -93,6 +93,7 @@ class AnswerTests(unittest.TestCase):
             (b"reports order 2\n", 3, ReportsRefused),
             (b"reports value 0\n", 9, ReportsRefused),
             (b"input too-long\n", 3, InputTooLong),
+            (b"part too-long\n", 3, InputTooLong),
             (b"words model\n", 4, UnknownProblem),
             (b"words number width\n", 4, WordsRefused),
             (b"words usage\n", 4, WordsRefused),
