@@ -1,6 +1,6 @@
 //! Texts of the reports of parts, read.
 
-use part_text::{ReadReportsError, read_reports};
+use part_text::{ReadReportsError, SettledReport, read_reports};
 use std::alloc::Global;
 use std::process::Abort;
 use tokens::{InstanceError, InstanceFault, Place};
@@ -100,12 +100,23 @@ fn with_digest(rt: &impl Abort, alloc: Global, text: &str, digest: &str) -> Stri
     whole.expect(rt, "a text")
 }
 
+/// What is read of the text with the digest in it.
+fn read(
+    rt: &impl Abort,
+    alloc: Global,
+    text: &str,
+) -> Result<Vec<SettledReport>, ReadReportsError> {
+    let whole = with_digest(rt, alloc, text, DIGITS);
+    let bytes = whole.as_bytes();
+    assert!(rt; bytes.len() < 1_000, "a short text");
+    read_reports(alloc, bytes)
+}
+
 #[test]
 fn reports_are_read_one_after_another(rt: HostRuntime) {
     let alloc = rt.alloc();
     for (text, wanted) in SPELLED.iter().copied() {
-        let bytes = with_digest(&rt, alloc, text, DIGITS);
-        let reports = read_reports(alloc, bytes.as_bytes()).expect(&rt, "reports");
+        let reports = read(&rt, alloc, text).expect(&rt, "reports");
         let shown = format!(in alloc; "{reports:?}").expect(&rt, "a text");
         let wanted = with_digest(&rt, alloc, wanted, SHOWN);
         assert_eq!(rt; shown.as_str(), wanted.as_str(), "{text}");
@@ -116,9 +127,8 @@ fn reports_are_read_one_after_another(rt: HostRuntime) {
 fn the_first_fault_is_told_with_its_place(rt: HostRuntime) {
     let alloc = rt.alloc();
     for (text, fault, line, column) in FAULTY.iter().copied() {
-        let bytes = with_digest(&rt, alloc, text, DIGITS);
         let place = Place { line, column };
-        let found = read_reports(alloc, bytes.as_bytes()).err();
+        let found = read(&rt, alloc, text).err();
         let wanted = ReadReportsError::Text(InstanceError { fault, place });
         assert_eq!(rt; found, Some(wanted), "{text}");
     }
