@@ -42,14 +42,14 @@ fn listed(
     })
 }
 
-/// What clauses on the same variables weigh, by their literals.
+/// The weights of the clauses on one variable, or on two.
 trait ClauseWeights: Copy {
     type Values: Drop;
 
-    /// Whether the weights are those of an instance.
+    /// That no weight is negative, and all of them together are at most 2^48.
     ghost fits: { Self → Type 0 };
 
-    /// What the clauses give.
+    /// What each value of the variables gives, and what none of them exceeds.
     ghost given: { Self → Self.Values };
 
     /// What the clauses give, by the values of their variables.
