@@ -1,5 +1,5 @@
-# What the tests of the engines share: a tour in eight parts and the frontier of a cut in sixteen, whose answers on one machine are known. Source
-# it with TOOLS and ROOM set. VERTICES and WIDTH make another cut, or another search of it.
+# What the tests of the engines share: a tour in eight parts and the frontier of a cut in sixteen, whose answers on one machine are known.
+# Source it with TOOLS and ROOM set. VERTICES and WIDTH make another cut, or another search of it.
 PARTS=8
 CUT_PARTS=16
 VERTICES=${VERTICES:-50}
@@ -33,9 +33,9 @@ until_true() {
     done
 }
 
-# A program that takes some seconds for a part, so that there is time to disturb it; its first word is a file with the number of seconds. Each part
-# that begins gets a line in the file `begun`: the number of its process, its index, and the bytes of its journal. The part of a journal has finished some subproblems before
-# it waits.
+# A program that takes some seconds for a part, so that there is time to disturb it; the file `seconds` has their number. Each part that begins
+# gets a line in the file `begun`: the number of its process, its index, and the bytes of its journal. The part of a journal finishes some
+# subproblems before it waits.
 make_slow() {
     cat >"$ROOM/slow" <<END
 #!/bin/bash
@@ -60,8 +60,8 @@ END
 "$PROGRAM" generate tsptw 12 3 >"$ROOM/tour.txt" || exit 1
 wanted=$("$PROGRAM" solve tsptw <"$ROOM/tour.txt" | head -n 2)
 
-# Has the journal of a stopped search of a cut with its heaviest vertices first, which has an open subproblem for each part, and the answer on one machine as the wanted one. It
-# fails where the program does not split journals.
+# Has the journal of a stopped search of a cut, with its heaviest vertices first and an open subproblem for each part, and has the answer of
+# one machine as the wanted one. It fails where the program does not split journals.
 stop_cut() {
     [ "$("$PROGRAM" split "$ROOM/none" --part 0/1)" != "words usage" ] || { echo "skipped: the parts of a journal, since the program has no word split"; return 1; }
     "$PROGRAM" generate maxcut "$VERTICES" 1 >"$ROOM/drawn.txt" || exit 1
@@ -84,7 +84,8 @@ stop_cut() {
 is_answer() { [ "$(head -n 2 "$1/joined.txt" 2>/dev/null)" = "$wanted" ]; }
 is_accepted() { [ "$("$PROGRAM" check <"$1/joined.txt")" = accepted ]; }
 
-# How many parts have begun so far, the N-th of them (the number of its process, and its index), how often a part has begun, and whether its journal had grown when it began again.
+# How many parts have begun so far, the N-th of them (the number of its process, and its index), how often a part has begun, and whether its
+# journal had grown when it began again.
 parts_begun() { [ "$(wc -l <"$ROOM/begun")" -ge "$1" ]; }
 begun_part() { sed -n "$1"'s|^\([0-9]*\) \([0-9]*\) .*|\1 \2|p' "$ROOM/begun"; }
 tries() { grep -c "^[0-9]* $1 " "$ROOM/begun"; }

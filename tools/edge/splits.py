@@ -36,8 +36,10 @@ MOST_DEPTH = 2
 MOST_TRIES = 4
 DISTANCES = [0, 0, 0, 1, 10, 60]
 KILLED = -9
-SETTLED = re.compile(r"settled(?: within (\d+))?\npart (\d+)/(\d+)\njournal ([0-9a-f]{64})\nvalue (?:none|(-?\d+)\nassignment((?: \d+)*))\n(?:taken \d+\nfinished \d+\n)?")
-STOPPED = re.compile(r"stopped budget\npart (\d+)/(\d+)\njournal ([0-9a-f]{64})\nvalue (?:none|(-?\d+)\nassignment(?: \d+)*)\nbound -?\d+\n(?:taken \d+\nfinished \d+\n)?")
+MARK = r"part (\d+)/(\d+)\njournal ([0-9a-f]{64})\n"
+COUNTS = r"(?:taken \d+\nfinished \d+\n)?"
+SETTLED = re.compile(r"settled(?: within (\d+))?\n" + MARK + r"value (?:none|(-?\d+)\nassignment((?: \d+)*))\n" + COUNTS)
+STOPPED = re.compile(r"stopped budget\n" + MARK + r"value (?:none|-?\d+\nassignment(?: \d+)*)\nbound -?\d+\n" + COUNTS)
 PROVED = re.compile(r"proved(?: within (\d+))?\nvalue (-?\d+)\nassignment((?: \d+)*)\n")
 
 
@@ -81,6 +83,8 @@ class Search:
         self.words = "generate %s %d %d" % (model, draw.randint(least, most), draw.randint(0, 2**31 - 1))
         self.within = draw.choice(DISTANCES)
         self.names = 0
+        # The journals that several workers have written. Two of their open subproblems may have one state, and then the program keeps one.
+        self.several = set()
 
     def try_all(self):
         """Solves the instance, stops a search of it, splits that, and joins its parts."""
@@ -98,6 +102,7 @@ class Search:
             self.seen["compared with the other program"] += told[1] != b"words model\n"
         budget = min(self.draw.randint(0, self.finished) for _ in range(2))
         within = " --within %d" % self.within if self.within else ""
+        self.note("j", options)
         stopped = run(self.program, "solve %s --journal j --budget %d%s%s" % (self.model, budget, within, options), self.folder, given)[:2]
         claim(stopped[0] in (0, 1, 2), "the search that is split ended", stopped)
         self.seen["stopped" if stopped[0] == 2 else "ended before they were split"] += 1
@@ -123,6 +128,10 @@ class Search:
         width = min(self.draw.randint(1, MOST_WIDTH) for _ in range(2))
         drawn = " --width %d --workers %d" % (width, self.draw.randint(1, MOST_WORKERS))
         return drawn + (" --cutset frontier" if self.draw.random() < 0.3 else "")
+
+    def note(self, name, options):
+        if " --workers 1 " not in options + " ":
+            self.several.add(name)
 
     def value_of(self, ended, within):
         """The value that a whole search or a join proved, None where it is infeasible."""
@@ -155,15 +164,15 @@ class Search:
             parts.append(part)
         claim(run(self.program, words, self.folder)[1] == output, "split again prints something else")
         claim(content(self.path(name)) == kept, "split changed the journal")
-        self.are_parts(parts, journal.digest, frontier)
+        self.are_parts(parts, journal.digest, frontier, name in self.several)
         self.seen["parts"] += of
         reports = [self.settled(part, depth) for part in parts]
         for index, report in enumerate(reports):
             self.is_report(report, index, of, journal.digest)
         return reports
 
-    def are_parts(self, parts, digest, frontier):
-        """Each open subproblem is in one part, in turn, and all begin with one incumbent."""
+    def are_parts(self, parts, digest, frontier, may_be_less):
+        """Each of the open subproblems is in one part, in turn, and all begin with one incumbent."""
         tickets, counts, incumbents = [], [], set()
         for index, part in enumerate(parts):
             head, entries = read(self.path(part))
@@ -173,7 +182,7 @@ class Search:
             tickets += [it.ticket for it in listed]
             counts.append(len(listed))
             incumbents.add(entries[0].record.incumbent)
-        claim(len(tickets) == len(set(tickets)) == frontier, "open and dealt out", frontier, tickets)
+        claim(len(tickets) == len(set(tickets)) and (len(tickets) == frontier or may_be_less and len(tickets) < frontier), "open and dealt out", frontier, tickets)
         claim(counts == sorted(counts, reverse=True) and counts[0] - counts[-1] <= 1, "dealt out unevenly", counts)
         claim(len(incumbents) == 1, "other incumbents", incumbents)
 
@@ -196,7 +205,9 @@ class Search:
     def resumed(self, part):
         """Status and output of a resume with a budget, or one that is killed. No byte of a record is lost by it."""
         before, head = content(self.path(part)), read(self.path(part))[0]
-        words = "resume %s%s --budget %d" % (part, self.options(), self.draw.randint(0, self.finished // 2 + 1))
+        options = self.options()
+        self.note(part, options)
+        words = "resume %s%s --budget %d" % (part, options, self.draw.randint(0, self.finished // 2 + 1))
         if self.draw.random() < 0.4:
             prepare(self.path("nothing"), b"")
             child = begin(self.program, words, self.folder, self.path("nothing"))

@@ -3,10 +3,11 @@
 
     tools/plots/frontier.py PROGRAM NAME=MODEL:FILE .. [--parts 4,16,64] [--options "--width 100"] [--for-a-part 4] [--jobs N]
 
-FILE is an instance, or N,SEED for one that PROGRAM draws. Each is solved whole by one worker. A second search of it is stopped once it has FOR_A_PART open subproblems for each of the
-greatest number of parts, and its journal is split into each number of parts, which are resumed by one worker each, N at a time. Seconds are
-those of a processor, user and system, also those that journals take; subproblems are the finished ones. `after` is what the stopped search had finished, `open` what it left, `split`
-the longest split. The joined value is compared with that of the whole search; the status is 1 where one differs. TMPDIR is where the journals lie, best in memory.
+FILE is an instance, or N,SEED for one that PROGRAM draws. Each is solved whole by one worker. A second search of it is stopped once it has
+FOR_A_PART open subproblems for each of the greatest number of parts. Its journal is split into each number of parts, which are resumed by one
+worker each, N at a time. Subproblems are the finished ones. Seconds are those of a processor, user and system, with what journals take. `After` is
+what the stopped search had finished, `Open` what it left, and `Split` the longest split. The status is 1 where a joined value is not that of
+the whole. TMPDIR is where the journals lie, best in memory.
 """
 import argparse
 import os
