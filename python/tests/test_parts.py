@@ -1,6 +1,7 @@
 """Parts of a stopped search: over recorded outputs, and over the program where it has the words."""
 
 import unittest
+from unittest import mock
 
 from support import ProgramCase, RoomCase, bytes_of, can_split, needs_program, part_of_search, small_search
 
@@ -11,6 +12,7 @@ from hammockdove import (
     Knapsack,
     NotBegun,
     Outcome,
+    PartInterrupted,
     PartOutcome,
     PartResult,
     ReportRefused,
@@ -74,6 +76,13 @@ class RecordedTests(RoomCase):
         result = solver.resume_part(self.part, timeout=0.5)
         self.assertEqual((result.outcome, result.stop, result.value, result.bound), (PartOutcome.STOPPED, Stop.TIMEOUT, 110, 120))
         self.assertEqual(self.words()[-1], f"resume {self.part} --budget 0")
+
+    def test_interrupt(self):
+        solver = self.answers(report(1, "110", "1 1 0", "stopped budget", "bound 120\n"), 2, wait="sleep 600")
+        with mock.patch("hammockdove.solver._wait", side_effect=KeyboardInterrupt), self.assertRaises(PartInterrupted) as caught:
+            solver.resume_part(self.part)
+        self.assertEqual((caught.exception.result.stop, caught.exception.result.bound), (Stop.INTERRUPT, 120))
+        self.assertEqual(str(caught.exception), f"part 1/2 stopped (interrupt): value 110, bound 120; resume {str(self.part)!r}")
 
     def test_a_part_is_no_whole_search(self):
         solver = self.answers(report(1))

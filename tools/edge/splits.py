@@ -5,8 +5,8 @@
 
 PROGRAM is the solver's binary, OTHER another program with the same words, whose answer to each instance must be the same. Each search is of a
 drawn instance of a problem that PROGRAM draws, has a width of 1 to 4 and sometimes a distance, and is stopped by a budget. Its journal is split 2 to 9
-ways. A part is resumed with drawn budgets and workers and killed at random moments; one that was stopped or killed goes on, or is split again, to
-a depth of 2. Of the parts of a journal each open subproblem is in one; `split` and `join` change no file; reports that are missing, there
+ways. A part is resumed with drawn budgets and workers and killed at random moments; one that was stopped or killed goes on, or is split again, and
+so are its parts. Of the parts of a journal each open subproblem is in one; `split` and `join` change no file; reports that are missing, there
 twice, in another order, of another journal or distance, or with a changed value or assignment are refused. TMPDIR is where the journals lie.
 """
 import os
@@ -31,6 +31,7 @@ from hammockdove.progress import Tracker
 SIZES = {"knapsack": (24, 60), "maxcut": (18, 26), "max2sat": (18, 28), "qubo": (16, 24), "tsptw": (9, 16), "tardiness": (8, 13)}
 MOST_WIDTH = 4
 MOST_PARTS = 9
+MOST_INNER_PARTS = 3
 MOST_WORKERS = 4
 MOST_DEPTH = 2
 MOST_TRIES = 4
@@ -83,8 +84,9 @@ class Search:
         self.words = "generate %s %d %d" % (model, draw.randint(least, most), draw.randint(0, 2**31 - 1))
         self.within = draw.choice(DISTANCES)
         self.names = 0
-        # The journals that several workers have written. Two of their open subproblems may have one state, and then the program keeps one.
-        self.several = set()
+        # The journals of which the program may have fewer subproblems open than they list: several workers have written them, so that two may have
+        # one state, of which one is kept; or there is nothing to search at all.
+        self.lists_more = set()
 
     def try_all(self):
         """Solves the instance, stops a search of it, splits that, and joins its parts."""
@@ -92,7 +94,7 @@ class Search:
         self.solve(given, options)
         if self.model == "tsptw" and self.draw.random() < 0.4:
             # Node 0 closes just before the earliest return.
-            given = given.replace(b"\n%d %d\n" % self.instance.windows[0], b"\n%d %d\n" % (self.instance.windows[0][0], -self.best - 1))
+            given = given.replace(b"\n%d %d\n" % self.instance.windows[0], b"\n%d %d\n" % (self.instance.windows[0][0], -self.best - 1), 1)
             self.words += ", infeasible"
             self.solve(given, options)
             claim(self.best is None, "a tour that returns too late", self.best)
@@ -103,6 +105,8 @@ class Search:
         budget = min(self.draw.randint(0, self.finished) for _ in range(2))
         within = " --within %d" % self.within if self.within else ""
         self.note("j", options)
+        if self.finished == 0:
+            self.lists_more.add("j")
         stopped = run(self.program, "solve %s --journal j --budget %d%s%s" % (self.model, budget, within, options), self.folder, given)[:2]
         claim(stopped[0] in (0, 1, 2), "the search that is split ended", stopped)
         self.seen["stopped" if stopped[0] == 2 else "ended before they were split"] += 1
@@ -131,7 +135,7 @@ class Search:
 
     def note(self, name, options):
         if " --workers 1 " not in options + " ":
-            self.several.add(name)
+            self.lists_more.add(name)
 
     def value_of(self, ended, within):
         """The value that a whole search or a join proved, None where it is infeasible."""
@@ -151,7 +155,7 @@ class Search:
 
     def reports(self, name, depth):
         """The reports of all parts of the journal with this name, each by whatever way it was settled."""
-        kept, of = content(self.path(name)), self.draw.randint(2, MOST_PARTS)
+        kept, of = content(self.path(name)), self.draw.randint(2, MOST_PARTS if depth == 0 else MOST_INNER_PARTS)
         journal, tracker, parts = Journal(Path(self.path(name))), Tracker(), []
         frontier = tracker.take_new(journal).open
         for index in range(of):
@@ -164,7 +168,7 @@ class Search:
             parts.append(part)
         claim(run(self.program, words, self.folder)[1] == output, "split again prints something else")
         claim(content(self.path(name)) == kept, "split changed the journal")
-        self.are_parts(parts, journal.digest, frontier, name in self.several)
+        self.are_parts(parts, journal.digest, frontier, name in self.lists_more)
         self.seen["parts"] += of
         reports = [self.settled(part, depth) for part in parts]
         for index, report in enumerate(reports):
@@ -192,7 +196,7 @@ class Search:
             status, output = self.resumed(part)
             if status == 0:
                 return output
-            if depth < MOST_DEPTH - 1 and self.draw.random() < 0.3:
+            if depth < MOST_DEPTH and self.draw.random() < 0.3:
                 self.seen["split again"] += 1
                 reports = self.reports(part, depth + 1)
                 status, output = self.joined(part, reports)
@@ -204,7 +208,7 @@ class Search:
 
     def resumed(self, part):
         """Status and output of a resume with a budget, or one that is killed. No byte of a record is lost by it."""
-        before, head = content(self.path(part)), read(self.path(part))[0]
+        before, head = self.whole_records(part), read(self.path(part))[0]
         options = self.options()
         self.note(part, options)
         words = "resume %s%s --budget %d" % (part, options, self.draw.randint(0, self.finished // 2 + 1))
@@ -217,7 +221,7 @@ class Search:
         else:
             status, output = run(self.program, words, self.folder)[:2]
         self.seen["kills"] += status == KILLED
-        claim(content(self.path(part))[: len(before) - 1] == before[:-1], "bytes were lost")
+        claim(self.whole_records(part).startswith(before), "records were lost")
         claim(read(self.path(part))[0] == head, "another head")
         if status == 2:
             found = STOPPED.fullmatch(output.decode())
@@ -226,6 +230,13 @@ class Search:
         else:
             claim(status in (0, KILLED), words, status, output)
         return status, output
+
+    def whole_records(self, name):
+        """The bytes of a journal up to its first closed gate; what stands after that means nothing."""
+        journal = Journal(Path(self.path(name)))
+        for _ in journal.advance():
+            pass
+        return content(self.path(name))[: journal.offset]
 
     def is_report(self, report, index, of, digest):
         """Whether it is what a part with this number has settled."""
