@@ -50,6 +50,11 @@ unopened bytes (answers.Checked given) h = absurd h
 unopened bytes (answers.Refused e) h = absurd h
 unopened bytes (answers.CoverRefused e) h = absurd (let clash : None ≡ Some e = h in cc)
 unopened bytes (answers.PartsRefused e) h = absurd h
+unopened bytes (answers.PartFile file) h = absurd h
+unopened bytes (answers.PartSearched part told counted) h = absurd h
+unopened bytes (answers.ReportRefused e) h = absurd h
+unopened bytes (answers.ReportsRefused e) h = absurd h
+unopened bytes answers.PartTooLarge h = absurd h
 unopened bytes answers.TooLong h = absurd h
 unopened bytes answers.Width h = absurd h
 unopened bytes (answers.Words e) h = absurd h

@@ -16,7 +16,7 @@ use Rattle.journal_bytes.specs.Frames.{Frame, Reading, reading_of}
 use Rattle.problem_names.specs.declared.ModelName.{ModelName}
 use Rattle.journal_file.specs.Refusing.{Opens}
 use Rattle.journal_file.specs.declared.error.JournalError.{JournalError}
-use Rattle.journal_bytes.specs.Journal.{◌>>=◌, HeadView, JournalView, or_malformed, head_of, model_at, text_of, is_distance, is_version, distance_at, within_at, records_from, tail_of, journal_in, journal_of, journal_view, new_head}
+use Rattle.journal_bytes.specs.Journal.{◌>>=◌, HeadView, JournalView, or_malformed, head_of, model_at, text_of, is_distance, is_version, distance_at, within_at, mark_at, records_from, tail_of, journal_in, journal_of, journal_view, new_head}
 
 -- a distance passes the test of a head
 pub passes : (within : ℤ) → IsDistance within → IsTrue (is_distance within)
@@ -83,7 +83,8 @@ near-head f =
     if-ok IsNear (is_version version.0) _ (Version version.0)
     (then-ok (λ m. Unit {0}) IsNear (or_malformed 0 (model_at version.1)) _ (any-ok (or_malformed 0 (model_at version.1))) (λ model any.
     then-ok (λ x. IsDistance x.0) IsNear (or_malformed 0 (within_at version.0 model.1)) _ (found-ok (λ x. IsDistance x.0) 0 (within_at version.0 model.1) (near-within version.0 model.1)) (λ within is.
-    then-ok (λ t. Unit {0}) IsNear (or_malformed 0 (text_of within.1)) _ (any-ok (or_malformed 0 (text_of within.1))) (λ text any. is))))))
+    then-ok (λ p. Unit {0}) IsNear (or_malformed 0 (mark_at version.0 within.1)) _ (any-ok (or_malformed 0 (mark_at version.0 within.1))) (λ part any.
+    then-ok (λ t. Unit {0}) IsNear (or_malformed 0 (text_of part.1)) _ (any-ok (or_malformed 0 (text_of part.1))) (λ text any. is)))))))
 
 abbrev IsNearIn : JournalView → Type 0
 IsNearIn j = IsNear j.head
@@ -114,8 +115,6 @@ heads-near (Ok j) read opens h = h (journal_view j) opens
 heads-near (Err e) read opens h = tt
 
 -- the head that is written for an instance
-pub same-head : (h : Head) (name : ModelName) (within : ℤ) (text : List ℕ) → h.model ≡ name → h.within ≡ within → h.text.items ≡ text → new_head h ≡ record { version = VERSION; within = within; model = name; text = text }
-same-head h name within text model near items =
-    ap (λ (n : ModelName). record { version = VERSION; within = h.within; model = n; text = h.text.items }) model
-    ∙ (ap (λ (z : ℤ). record { version = VERSION; within = z; model = name; text = h.text.items }) near
-    ∙ ap (λ (t : List ℕ). record { version = VERSION; within = within; model = name; text = t }) items)
+pub same-head : (h : Head) (name : ModelName) (within : ℤ) (text : List ℕ) → h.model ≡ name → h.within ≡ within → h.part ≡ None → h.text.items ≡ text → new_head h ≡ record { version = VERSION; within = within; model = name; part = None; text = text }
+same-head h name within text model near whole items =
+    λ i. record { version = VERSION; within = near i; model = model i; part = whole i; text = items i }

@@ -37,6 +37,11 @@ without-memory bytes (answers.Checked given) h = absurd h
 without-memory bytes (answers.Refused e) h = absurd h
 without-memory bytes (answers.CoverRefused e) h = absurd (let clash : None ≡ Some e = h in cc)
 without-memory bytes (answers.PartsRefused e) h = absurd h
+without-memory bytes (answers.PartFile file) h = absurd h
+without-memory bytes (answers.PartSearched part told counted) h = absurd h
+without-memory bytes (answers.ReportRefused e) h = absurd h
+without-memory bytes (answers.ReportsRefused e) h = absurd h
+without-memory bytes answers.PartTooLarge h = absurd h
 without-memory bytes answers.TooLong h = absurd h
 without-memory bytes answers.Width h = absurd h
 without-memory bytes (answers.Words e) h = absurd h

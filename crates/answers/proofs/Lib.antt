@@ -1,4 +1,5 @@
 pub mod Conclusions
+pub mod PartSearches
 pub mod Covered
 pub mod Ending
 pub mod Reports
@@ -9,3 +10,5 @@ pub mod Wholes
 pub mod JoinFaults
 pub mod Heads
 pub mod Journaled
+pub mod Opened
+pub mod Splits

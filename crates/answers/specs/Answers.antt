@@ -12,6 +12,8 @@ use Rattle.board_laws.specs.declared.cause.Cause.TheVariants as causes
 use Rattle.sha2.specs.Sha256.{sha256}
 use Rattle.solver_report.specs.declared.answer.Counts.{Counts}
 use Rattle.solver_report.specs.declared.answer.Outcome.{Outcome}
+use Rattle.solver_report.specs.declared.answer.PartOutcome.{PartOutcome}
+use Rattle.solver_report.specs.declared.answer.SearchedPart.{SearchedPart}
 use Rattle.solver_report.specs.declared.answer.Answer.{Answer}
 use Rattle.solver_report.specs.declared.answer.Answer.TheVariants as answers
 use Rattle.solver_words.specs.declared.job.JobSettings.{JobSettings}
@@ -29,6 +31,13 @@ Ends dp search Has (answers.Covered outcome counts cover) = Has outcome counts �
 Ends dp search Has answers.Width = IsRefusedWidth dp search.width
 Ends dp search Has answers.OutOfMemory = Unit {0}
 Ends dp search Has _ = ⊥
+
+-- what a search of a part may answer, where this is what is told of it: how it ended, with the part
+abbrev pub EndsPart : Dp → JobSettings → SearchedPart → (PartOutcome → Option Counts → Type 0) → Answer → Type 0
+EndsPart dp search part Has (answers.PartSearched told outcome counts) = (told ≡ part) × Has outcome counts
+EndsPart dp search part Has answers.Width = IsRefusedWidth dp search.width
+EndsPart dp search part Has answers.OutOfMemory = Unit {0}
+EndsPart dp search part Has _ = ⊥
 
 -- the answer that tells this of a search: with a cover, or none where memory ran out for it, exactly where one is asked for and the search went to its end
 abbrev pub IsReport : JobSettings → Outcome → Option Counts → Answer → Type 0

@@ -1,33 +1,38 @@
 -- When the answer to a search that keeps a journal is right.
-use Rattle.std.specs.Prelude.{◌≡◌, ◌⊎◌, ℕ, ℤ, List, [], Option, MatchResult, IfOk, IsSome, IsTrue}
+use Rattle.std.specs.Prelude.{◌≡◌, ◌⊎◌, ℕ, ℤ, List, [], ◌∷◌, cond, Option, Some, None, MatchResult, IfOk, IsSome, IsTrue}
 use Rattle.disk.specs.declared.disk.Disk.{Ghosts}
 use Rattle.disk.specs.Counts.{Rose}
 use Rattle.dp_model.specs.Dp.{Dp}
+use Rattle.journal_bytes.specs.Base.{is_snapshot}
 use Rattle.journal_bytes.specs.Bodies.{RecordView}
 use Rattle.journal_bytes.specs.Frames.{frames_of}
+use Rattle.journal_bytes.specs.declared.head.Part.{Part}
 use Rattle.journal_bytes.specs.declared.head.TheConstants.{VERSION}
 use Rattle.journal_bytes.specs.Journal.{HeadView, JournalView, HasRecords, after_head, journal_of}
 use Rattle.journal_file.specs.Refusing.{error_of}
 use Rattle.journal_file.specs.declared.error.JournalError.TheVariants as errors
 use Rattle.journal_replay.specs.Accepting.{AreAccepted, AreRefused}
 use Rattle.journal_replay.specs.Replay.{replay_of, restored_from}
-use Rattle.journal_replay.specs.Sound.{AreSound}
+use Rattle.journal_replay.specs.Parts.{starts_of}
+use Rattle.journal_replay.specs.Sound.{AreSound, AreSoundOf}
 use Rattle.problem_names.specs.declared.ModelName.{ModelName}
 use Rattle.problems.specs.Theories.{theory_of}
 use Rattle.problem_theory.specs.Theory.{Theory}
 use Rattle.solver_report.specs.declared.answer.Answer.{Answer}
 use Rattle.solver_report.specs.declared.answer.Answer.TheVariants as answers
-use Rattle.answers.specs.Answers.{Ends, HasSearchedFromStart}
+use Rattle.solver_report.specs.declared.answer.SearchedPart.{SearchedPart}
+use Rattle.answers.specs.Answers.{Ends, EndsPart, HasSearchedFromStart}
 use Rattle.answers.specs.Checks.{RefusesInstance}
 use Rattle.answers.specs.Covers.{IsCovered}
 use Rattle.answers.specs.Outcomes.{HasSearched}
+use Rattle.answers.specs.PartSearches.{HasSearchedPart}
 use Rattle.answers.specs.Journals.{AreFrontsAdded, Attaches, HasGoneOn, HasKept, IsRefusedToBegin, IsUnwritten, LeavesBegun, LeavesResumed, MightBegin, SinceAttached}
 use Rattle.answers.specs.Widths.{IsRefusedWidth, IsSearchWidth}
 use Rattle.solver_words.specs.declared.job.JobSettings.{JobSettings}
 
 -- the head of a new journal of an instance, with the distance of its search
 abbrev pub head_of : Theory → ModelName → ℤ → List ℤ → HeadView
-head_of t name within numbers = record { version = VERSION; within = within; model = name; text = t.canonical numbers }
+head_of t name within numbers = record { version = VERSION; within = within; model = name; part = None; text = t.canonical numbers }
 
 -- each front of these records may stand after old ones, where those are accepted
 abbrev pub MayBeAdded : Dp → ℤ → List RecordView → List RecordView → Type 0
@@ -40,6 +45,15 @@ MayFollow head old written = let t = theory_of head.model in IfOk (t.spelled hea
 -- what is asked of a search that goes on: the distance is that of its journal
 abbrev pub going_on : HeadView → JobSettings → JobSettings
 going_on head search = record search { within = head.within }
+
+-- the start prefixes of the search of a part, by the records of its journal: those that the first record lists, which is a snapshot
+abbrev pub starts_in : List RecordView → Option (List (List ℕ))
+starts_in [] = None
+starts_in (r ∷ rs) = cond (is_snapshot r) (Some (starts_of r)) None
+
+-- a part as an answer tells it
+abbrev pub searched_part : Part → SearchedPart
+searched_part part = record { index = part.index; of = part.of; digest = part.digest }
 
 module _ {D : Type 0} (on : Ghosts D) where
   -- what a search that begins a journal may answer for an instance; the width is refused before the disk is touched
@@ -67,12 +81,30 @@ module _ {D : Type 0} (on : Ghosts D) where
       × HasSearched dp own (λ settings. restored_from settings (replay_of dp records)) (AreSound dp head.within records) (going_on head search)
       (HasKept on dp head records (LeavesResumed on head records) now) outcome counts) answer
 
+  -- the same for the journal of a part, whose search begins with some start prefixes: it rests on their records' soundness from these, and it is told of the part
+  abbrev pub GoesOnPart : Dp → (List ℕ → Option ℤ) → Part → List (List ℕ) → HeadView → List RecordView → ℕ → JobSettings → D → Answer → Type 0
+  GoesOnPart dp own part starts head records first search now (answers.Journal e) = AreRefused dp first records e
+  GoesOnPart dp own part starts head records first search now answer =
+      EndsPart dp search (searched_part part) (λ outcome counts. AreAccepted dp records
+      × HasSearchedPart dp own starts (λ settings. restored_from settings (replay_of dp records)) (AreSoundOf dp starts head.within records) (going_on head search)
+      (HasKept on dp head records (LeavesResumed on head records) now) outcome counts) answer
+
+  -- where it has none, since it does not begin with a snapshot, the journal is refused at its first record
+  abbrev pub ResumesPart : Dp → (List ℕ → Option ℤ) → Part → Option (List (List ℕ)) → HeadView → List RecordView → ℕ → JobSettings → D → Answer → Type 0
+  ResumesPart dp own part None head records first search now answer = answer ≡ answers.Journal (errors.Malformed first)
+  ResumesPart dp own part (Some starts) head records first search now answer = GoesOnPart dp own part starts head records first search now answer
+
+  -- for an instance: the whole search goes on, or that of the part of which the journal is
+  abbrev pub ResumesIn : Dp → (List ℕ → Option ℤ) → Option Part → HeadView → List RecordView → ℕ → JobSettings → D → Answer → Type 0
+  ResumesIn dp own None head records first search now answer = GoesOn dp own head records first search now answer
+  ResumesIn dp own (Some part) head records first search now answer = ResumesPart dp own part (starts_in records) head records first search now answer
+
   -- for a journal whose first record has this offset: for the instance of its head, whose text is refused as malformed at 0
   abbrev pub ResumesJournal : JournalView → ℕ → JobSettings → D → Answer → Type 0
   ResumesJournal j first search now answer =
       let t = theory_of j.head.model in
       MatchResult (t.spelled j.head.text)
-      (λ numbers. GoesOn (t.program numbers) (t.own_value numbers) j.head j.records first search now answer)
+      (λ numbers. ResumesIn (t.program numbers) (t.own_value numbers) j.head.part j.head j.records first search now answer)
       (λ e. answer ≡ answers.Journal (errors.Malformed 0))
 
   -- a file was read after the first sync, which is what that found where the disk tells it; the answer is for the journal that it is, or the first cause for which it is none

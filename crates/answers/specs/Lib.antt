@@ -6,10 +6,14 @@ pub mod Checks
 pub mod Covers
 pub mod Over
 pub mod Outcomes
+pub mod PartSearches
 pub mod Joins
 pub mod Answers
 -- what a run leaves on its disk where it keeps a journal, and what it then answers
 pub mod Journals
 pub mod Kept
+-- what is answered for a journal that is only read
+pub mod Opened
+pub mod Splits
 -- how a run ends
 pub mod Ended

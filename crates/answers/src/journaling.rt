@@ -63,11 +63,13 @@ pub fn begin_journal<P: Problem, D: Disk>(
 fn head_of(model: ModelName, within: i64, text: Vec<u8>) -> Head
     ensures model { result.model ≡ model }
     ensures within { result.within ≡ within }
+    ensures part { result.part ≡ None }
     ensures text { result.text.items ≡ text.items }
 {
     Head {
         model,
         within,
+        part: None,
         text,
     }
 }

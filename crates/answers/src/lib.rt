@@ -6,11 +6,15 @@
 //! the number of prefixes. This is true of a search that began at the root, and of one that goes on from a journal whose records
 //! are sound. A check accepts the cover that follows a report, and an accepted cover proves its report.
 //!
+//! The search of a part of a stopped search begins with the prefixes that its journal lists. It has settled them with its incumbent, or no
+//! solution that begins with one of them exceeds its bound. `split_journal` gives the journal of a part. `specs/PartSearches.antt` and
+//! `specs/Splits.antt` define this.
+//!
 //! A search that keeps a journal begins it by `begin_journal`, or goes on from one that `open_journal` opened. What it may leave on
 //! its disk, and when its answer is right, is defined in `specs/Journals.antt` and `specs/Kept.antt`.
 //!
 //! It stands on `problems` for instances, on `parts` for parts of them, on `board` for the board of a search, on `disk` and `journal_file` for
-//! journals, on `journal_replay` and `kept_board` for what their records make, on `bound_cover`, `cover_pages`, `cover_book` and
+//! journals, on `journal_replay` and `kept_board` for what their records make, on `frontier_parts`, `part_records` and `part_files` for parts of a stopped search, on `bound_cover`, `cover_pages`, `cover_book` and
 //! `cover_text` for covers and the books that they are made from, on `sha2` for digests, on `streams` for streams, on `solver_words` for the words and on `solver_report`
 //! for answers and their texts. It starts no search: the program does.
 //!
@@ -30,6 +34,8 @@ mod journaling;
 mod parting;
 mod printing;
 mod saying;
+mod settling;
+mod splitting;
 
 pub use checking::check;
 pub use concluding::conclude;
@@ -41,3 +47,5 @@ pub use journaling::{begin_journal, open_journal};
 pub use parting::part_of;
 pub use printing::printed;
 pub use saying::say;
+pub use settling::{part_outcome, searched_part};
+pub use splitting::split_journal;

@@ -1,5 +1,5 @@
 -- A search that goes on from a journal.
-use Rattle.std.proofs.Common.{◌≡◌, ◌≤◌, ◌⊎◌, inl, inr, ℕ, ◌+◌, ℤ, pos, List, [], ◌∷◌, Bool, true, false, ◌&&◌, Option, None, is_some, IsSome, IfSome, IsTrue, Result, Ok, Err, IfOk, Vec, Global, refl, sym, subst, ap, arith, ◌∙◌, Some}
+use Rattle.std.proofs.Common.{◌≡◌, ◌≤◌, ◌⊎◌, inl, inr, ℕ, ◌+◌, ℤ, pos, List, [], ◌∷◌, Bool, true, false, ◌&&◌, Option, None, is_some, IsSome, IfSome, IsTrue, Result, Ok, Err, IfOk, IfErr, Vec, Global, cond, refl, sym, subst, ap, arith, ◌∙◌, Some}
 use Rattle.std.specs.Prelude.{MatchResult}
 use Rattle.std.specs.declared.alloc.AllocError.{AllocError}
 use Rattle.disk.specs.declared.disk.Disk.{Ghosts}
@@ -16,6 +16,7 @@ use Rattle.journal_bytes.specs.Bodies.{RecordView, RecordsView}
 use Rattle.journal_bytes.specs.Frames.{frames_of}
 use Rattle.journal_bytes.specs.Journal.{HeadView, HasRecords, JournalView, after_head, head_view, journal_of, journal_view}
 use Rattle.journal_bytes.specs.declared.head.Head.{Head}
+use Rattle.journal_bytes.specs.declared.head.Part.{Part}
 use Rattle.journal_bytes.specs.declared.tail.Tail.{Tail}
 use Rattle.journal_bytes.specs.declared.refusal.Refusal.{Refusal}
 use Rattle.journal_bytes.specs.declared.refusal.Refusal.TheVariants as bytes
@@ -24,11 +25,12 @@ use Rattle.journal_file.specs.declared.error.JournalError.{JournalError}
 use Rattle.journal_file.specs.declared.error.JournalError.TheVariants as errors
 use Rattle.journal_replay.specs.Accepting.{AreAccepted, AreRefused, IsFirstWrong}
 use Rattle.journal_replay.specs.Replay.{Replayed, after_record, replay_of, replay_start, restored_from}
+use Rattle.journal_replay.specs.Parts.{starts_of}
 use Rattle.journal_replay.specs.Sound.{AreSound}
 use Rattle.journal_replay.proofs.Joined.{sound-restore-good}
 use Rattle.board.specs.View.{BoardView}
 use Rattle.search_workers.specs.declared.desk.Desk.{Desk}
-use Rattle.problem_theory.specs.Theory.{Theory}
+use Rattle.problem_theory.specs.Theory.{Agrees, Theory}
 use Rattle.problems.specs.Theories.{theory_of}
 use Rattle.solver_report.specs.declared.answer.Answer.{Answer}
 use Rattle.solver_report.specs.declared.answer.Answer.TheVariants as answers
@@ -37,29 +39,21 @@ use Rattle.solver_report.specs.declared.answer.Outcome.{Outcome}
 use Rattle.solver_report.specs.Report.{is_final}
 use Rattle.solver_words.specs.Possible.{MaySearch}
 use Rattle.answers.specs.Journals.{HasGoneOn, HasKept, HasOpened, IsUnwritten, LeavesResumed}
-use Rattle.answers.specs.Kept.{GoesOn, going_on, MayBeAdded, MayFollow, Resumes, ResumesJournal, WasResumed}
+use Rattle.answers.specs.Kept.{GoesOn, GoesOnPart, going_on, MayBeAdded, MayFollow, Resumes, ResumesIn, ResumesJournal, ResumesPart, WasResumed, starts_in}
 use Rattle.answers.specs.Outcomes.{HasSearched}
 use Rattle.answers.specs.Over.{IsOver}
 use Rattle.solver_words.specs.declared.job.JobSettings.{JobSettings}
 use Rattle.answers.proofs.Journaled.{IsFound, at-first, ends-resumed, is-found, left-following, none-following, same-names, same-start, still-first, still-tells}
 use Rattle.solver_cli.specs.Journals.{IsOpened, LeavesOpened, TouchesNothing}
-use Rattle.solver_cli.specs.Searches.{IsKeptOn, KeepsSome, report_of}
+use Rattle.solver_cli.specs.Searches.{IsKeptOn, IsToldOn, KeepsSome, begins_with, or_memory, report_in}
 use Rattle.solver_cli.specs.Starts.{AreAsked, DoesNotGoOn, GoesOnFrom}
+use Rattle.answers.proofs.Opened.{refused-not-disk}
+use Rattle.answers.proofs.PartSearches.{records_searched}
 use Rattle.solver_cli.proofs.Starts.{are-settings}
 use Rattle.solver_cli.proofs.Told.{Told}
 use Rattle.solver_cli.proofs.Searched.{in-words}
 
 -- ---- records and disks
-
--- no record is refused for the disk
-not-disk : (dp : Dp) (s : Replayed) (at : ℕ) (records : List RecordView) → IsFirstWrong dp s at records errors.Disk → ⊥
-not-disk dp s at [] h = h
-not-disk dp s at (r ∷ rs) (inl h) = h
-not-disk dp s at (r ∷ rs) (inr h) = not-disk dp (after_record dp s r) (following_record at r) rs h.1
-
-refused-not-disk : (dp : Dp) (at : ℕ) (records : List RecordView) → AreRefused dp at records errors.Disk → ⊥
-refused-not-disk dp at records (inl memory) = cc
-refused-not-disk dp at records (inr h) = not-disk dp (replay_start dp) (base_offset at records) (from_base records) h
 
 -- two facts of the first sync
 both-first : (o : Option FirstSync) (before now : List ℕ) (P Q : FirstSync → Type 0) → AtFirstSync o before now P → AtFirstSync o before now Q → AtFirstSync o before now (λ s. P s × Q s)
@@ -93,21 +87,26 @@ may-go-on head search asked same near may = subst MaySearch (sym same) (record {
 coverless : (cover : Option ℕ) (final : Bool) → cover ≡ None → (is_some cover && final) ≡ false
 coverless cover final is = subst (λ c. (is_some c && final) ≡ false) (sym is) refl
 
+-- an answer that comes with the disk as it was touches nothing
+pub untouched : {D : Type 0} (disk : D) (answer : Answer) → TouchesNothing disk disk answer
+untouched disk (answers.Journal e) = refl
+untouched disk answers.Width = refl
+untouched disk answer = tt
+
 module _ {D : Type 0} (on : Ghosts D) where
   -- ---- a search that goes on
 
   module _ (dp : Dp) (own : List ℕ → Option ℤ) (head : HeadView) (records : List RecordView) where
-    -- what is told of a search that goes on
-    abbrev ToldOn : JobSettings → D → Outcome → Option Counts → Type 0
-    ToldOn search now outcome counts = AreAccepted dp records
-        × HasSearched dp own (λ settings. restored_from settings (replay_of dp records)) (AreSound dp head.within records) search
-        (HasKept on dp head records (LeavesResumed on head records) now) outcome counts
+    -- what was told of it, by what was asked for
+    pub told-on : (search asked : JobSettings) → search ≡ going_on head asked → (now : D) → (ended : Result Told AllocError) → IfOk ended (λ told. IsToldOn on dp own head records search now told.0 told.1)
+        → IfOk (or_memory ended) (λ told. IsToldOn on dp own head records (going_on head asked) now told.0 told.1)
+    told-on search asked same now (Ok told) h = subst (λ (s : JobSettings). IsToldOn on dp own head records s now told.0 told.1) same h
+    told-on search asked same now (Err e) h = tt
 
-    -- so may be answered, by what was asked for
-    pub reported : (search asked : JobSettings) → search ≡ going_on head asked → (first : ℕ) (now : D) → asked.cover_words ≡ None → (ended : Result Told AllocError) → IfOk ended (λ told. ToldOn search now told.0 told.1)
-        → GoesOn on dp own head records first asked now (report_of ended)
-    reported search asked same first now plain (Ok told) h = (subst (λ (s : JobSettings). ToldOn s now told.0 told.1) same h, coverless asked.cover_words (is_final told.0) plain)
-    reported search asked same first now plain (Err e) h = tt
+    -- where nothing was told, for want of memory
+    pub or-refused : (why : RecordsView) (asked : JobSettings) (before now : D) (ended : Result Told AllocError) → IfErr (or_memory ended) (λ answer. DoesNotGoOn dp (going_on head asked) why answer × TouchesNothing before now answer)
+    or-refused why asked before now (Ok told) = tt
+    or-refused why asked before now (Err e) = (tt, tt)
 
     module _ (search : JobSettings) (made : D) (tail : Tail) (opened : IsOpened on head records made tail) where
       kept-resumed : (now : D) (f b : BoardState) → IsOver dp search f b → IsKeptOn on dp true made now b → HasKept on dp head records (LeavesResumed on head records) now b
@@ -128,7 +127,7 @@ module _ {D : Type 0} (on : Ghosts D) where
           }
 
       pub gone-on : (now : D) (f : BoardState) → AreAccepted dp records → f ≡ restored_from f.settings (replay_of dp records) → (AreSound dp head.within records → IsGood dp f) → (ended : Result Told AllocError)
-          → IfOk ended (λ told. HasSearched dp own (λ settings. f) (IsGood dp f) search (IsKeptOn on dp true made now) told.0 told.1) → IfOk ended (λ told. ToldOn search now told.0 told.1)
+          → IfOk ended (λ told. HasSearched dp own (λ settings. f) (IsGood dp f) search (IsKeptOn on dp true made now) told.0 told.1) → IfOk ended (λ told. IsToldOn on dp own head records search now told.0 told.1)
       gone-on now f accepted is good (Ok told) h = (
         accepted,
         in-words dp own search f (λ settings. restored_from settings (replay_of dp records)) (AreSound dp head.within records) (IsKeptOn on dp true made now) (HasKept on dp head records (LeavesResumed on head records) now) is good
@@ -139,23 +138,57 @@ module _ {D : Type 0} (on : Ghosts D) where
   -- a search that does not go on, by what was asked for
   module _ (dp : Dp) (own : List ℕ → Option ℤ) (head : HeadView) (records : RecordsView) (asked : JobSettings) (now : D) where
     told-why : (answer : Answer) → DoesNotGoOn dp (going_on head asked) records answer → GoesOn on dp own head records.records records.first asked now answer
-    told-why (answers.Searched outcome counts) h = absurd h
-    told-why (answers.Covered outcome counts text) h = absurd h
-    told-why (answers.Digest digest) h = absurd h
-    told-why (answers.Drawn text) h = absurd h
-    told-why (answers.Checked given) h = absurd h
-    told-why (answers.Refused e) h = absurd h
-    told-why (answers.CoverRefused e) h = absurd h
-    told-why (answers.PartsRefused e) h = absurd h
-    told-why answers.TooLong h = absurd h
     told-why answers.Width h = h
-    told-why (answers.Words e) h = absurd h
     told-why (answers.Journal e) h = h
-    told-why answers.ReadFault h = absurd h
     told-why answers.OutOfMemory h = tt
+    told-why answer h = absurd h
 
-    pub not-gone-on : (search : JobSettings) → search ≡ going_on head asked → (answer : Answer) → DoesNotGoOn dp search records answer → GoesOn on dp own head records.records records.first asked now answer
-    not-gone-on search same answer h = told-why answer (subst (λ (s : JobSettings). DoesNotGoOn dp s records answer) same h)
+    told-why-part : (part : Part) (starts : List (List ℕ)) (answer : Answer) → DoesNotGoOn dp (going_on head asked) records answer → GoesOnPart on dp own part starts head records.records records.first asked now answer
+    told-why-part part starts answers.Width h = h
+    told-why-part part starts (answers.Journal e) h = h
+    told-why-part part starts answers.OutOfMemory h = tt
+    told-why-part part starts answer h = absurd h
+
+  -- ---- the journal of a whole search, or of a part
+
+  -- a journal that a search does not begin with is refused at its first record
+  pub not-begun : (dp : Dp) (own : List ℕ → Option ℤ) (part : Option Part) (head : HeadView) (records : List RecordView) (first : ℕ) (asked : JobSettings) (now : D) → begins_with part records ≡ false
+      → ResumesIn on dp own part head records first asked now (answers.Journal (errors.Malformed first))
+  not-begun dp own None head records first asked now never = absurd (cc)
+  not-begun dp own (Some part) head [] first asked now never = refl
+  not-begun dp own (Some part) head (r ∷ rs) first asked now never =
+      subst (λ b. ResumesPart on dp own part (cond b (Some (starts_of r)) None) head (r ∷ rs) first asked now (answers.Journal (errors.Malformed first))) (sym never) refl
+
+  -- what was told of a search that goes on, or why it does not
+  module _ (dp : Dp) (laws : IsLawful dp) (own : List ℕ → Option ℤ) (agrees : Agrees dp own) (head : HeadView) (records : RecordsView) (asked : JobSettings) (may : MaySearch (going_on head asked)) (plain : asked.cover_words ≡ None) (before now : D) where
+    abbrev Told-by : Result Told Answer → Type 0
+    Told-by ended = IfOk ended (λ told. IsToldOn on dp own head records.records (going_on head asked) now told.0 told.1)
+
+    abbrev Refused-by : Result Told Answer → Type 0
+    Refused-by ended = IfErr ended (λ answer. DoesNotGoOn dp (going_on head asked) records answer × TouchesNothing before now answer)
+
+    in-whole : (ended : Result Told Answer) → Told-by ended → Refused-by ended → GoesOn on dp own head records.records records.first asked now (report_in None head.within ended)
+    in-whole (Ok told) h why = (h, coverless asked.cover_words (is_final told.0) plain)
+    in-whole (Err answer) h why = told-why dp own head records asked now answer why.0
+
+    in-part : (part : Part) (starts : List (List ℕ)) (ended : Result Told Answer) → Told-by ended → Refused-by ended
+        → GoesOnPart on dp own part starts head records.records records.first asked now (report_in (Some part) head.within ended)
+    in-part part starts (Ok told) h why =
+        (refl, (h.0, records_searched dp laws own agrees (going_on head asked) may records.records h.0 starts (AreSound dp head.within records.records) (HasKept on dp head records.records (LeavesResumed on head records.records) now) told.0 told.1 h.1))
+    in-part part starts (Err answer) h why = told-why-part dp own head records asked now part starts answer why.0
+
+    begun-part : (part : Part) (ended : Result Told Answer) (rs : List RecordView) → begins_with (Some part) rs ≡ true
+        → ((starts : List (List ℕ)) → GoesOnPart on dp own part starts head records.records records.first asked now (report_in (Some part) head.within ended))
+        → ResumesPart on dp own part (starts_in rs) head records.records records.first asked now (report_in (Some part) head.within ended)
+    begun-part part ended [] begun goes = absurd (cc)
+    begun-part part ended (r ∷ rs) begun goes =
+        subst (λ b. ResumesPart on dp own part (cond b (Some (starts_of r)) None) head records.records records.first asked now (report_in (Some part) head.within ended)) (sym begun) (goes (starts_of r))
+
+    -- the answer to it
+    pub resumes-in : (part : Option Part) (ended : Result Told Answer) → begins_with part records.records ≡ true → Told-by ended → Refused-by ended
+        → ResumesIn on dp own part head records.records records.first asked now (report_in part head.within ended)
+    resumes-in None ended begun told why = in-whole ended told why
+    resumes-in (Some part) ended begun told why = begun-part part ended records.records begun (λ starts. in-part part starts ended told why)
 
   -- ---- a journal that was opened
 
@@ -184,13 +217,19 @@ module _ {D : Type 0} (on : Ghosts D) where
 
   -- it is not refused for the disk
   not-for-disk : (j : JournalView) (first : ℕ) (search : JobSettings) (now : D) → ResumesJournal on j first search now (answers.Journal errors.Disk) → ⊥
-  not-for-disk j first search now h =
-      let t = theory_of j.head.model in
-      never (t.spelled j.head.text) h
+  not-for-disk j first search now h = never ((theory_of j.head.model).spelled j.head.text) h
     where
-      never : {E : Type 0} (r : Result (List ℤ) E) → MatchResult r (λ numbers. AreRefused ((theory_of j.head.model).program numbers) first j.records errors.Disk)
+      for-part : (dp : Dp) (own : List ℕ → Option ℤ) (part : Part) (starts : Option (List (List ℕ))) → ResumesPart on dp own part starts j.head j.records first search now (answers.Journal errors.Disk) → ⊥
+      for-part dp own part None same = cc
+      for-part dp own part (Some starts) refused = refused-not-disk dp first j.records refused
+
+      in-dp : (dp : Dp) (own : List ℕ → Option ℤ) (part : Option Part) → ResumesIn on dp own part j.head j.records first search now (answers.Journal errors.Disk) → ⊥
+      in-dp dp own None refused = refused-not-disk dp first j.records refused
+      in-dp dp own (Some part) h = for-part dp own part (starts_in j.records) h
+
+      never : {E : Type 0} (r : Result (List ℤ) E) → MatchResult r (λ numbers. ResumesIn on ((theory_of j.head.model).program numbers) ((theory_of j.head.model).own_value numbers) j.head.part j.head j.records first search now (answers.Journal errors.Disk))
           (λ e. answers.Journal errors.Disk ≡ answers.Journal (errors.Malformed 0)) → ⊥
-      never (Ok numbers) refused = refused-not-disk ((theory_of j.head.model).program numbers) first j.records refused
+      never (Ok numbers) refused = in-dp ((theory_of j.head.model).program numbers) ((theory_of j.head.model).own_value numbers) j.head.part refused
       never (Err e) same = cc
 
   module _ (search : JobSettings) (before made now : D) (Follow : List RecordView → Type 0) (r : Head × RecordsView × Tail) (opened : HasOpened on made (Ok r)) (began : IsSome (on.start made)) (left : LeavesOpened on Follow (head_view r.2.version r.0) r.1.records made now) where

@@ -21,6 +21,11 @@ module _ (dp : Dp) (search : JobSettings) where
   unready own name part instance (answers.Refused e) h = absurd h
   unready own name part instance (answers.CoverRefused e) h = absurd h
   unready own name part instance (answers.PartsRefused e) h = absurd h
+  unready own name part instance (answers.PartFile file) h = absurd h
+  unready own name part instance (answers.PartSearched p told counted) h = absurd h
+  unready own name part instance (answers.ReportRefused e) h = absurd h
+  unready own name part instance (answers.ReportsRefused e) h = absurd h
+  unready own name part instance answers.PartTooLarge h = absurd h
   unready own name part instance answers.TooLong h = absurd h
   unready own name part instance answers.Width h = (h, tt)
   unready own name part instance (answers.Words e) h = absurd h

@@ -26,6 +26,11 @@ whole For r bytes (answers.Checked given) sound short read h = record { bytes = 
 whole For r bytes (answers.Refused e) sound short read h = record { bytes = bytes; read = read; replies = h }
 whole For r bytes (answers.CoverRefused e) sound short read h = record { bytes = bytes; read = read; replies = h }
 whole For r bytes (answers.PartsRefused e) sound short read h = record { bytes = bytes; read = read; replies = h }
+whole For r bytes (answers.PartFile file) sound short read h = record { bytes = bytes; read = read; replies = h }
+whole For r bytes (answers.PartSearched part told counted) sound short read h = record { bytes = bytes; read = read; replies = h }
+whole For r bytes (answers.ReportRefused e) sound short read h = record { bytes = bytes; read = read; replies = h }
+whole For r bytes (answers.ReportsRefused e) sound short read h = record { bytes = bytes; read = read; replies = h }
+whole For r bytes answers.PartTooLarge sound short read h = record { bytes = bytes; read = read; replies = h }
 whole For r bytes answers.TooLong sound short read h = absurd (short h)
 whole For r bytes answers.Width sound short read h = record { bytes = bytes; read = read; replies = h }
 whole For r bytes (answers.Words e) sound short read h = record { bytes = bytes; read = read; replies = h }

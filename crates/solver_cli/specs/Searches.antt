@@ -1,5 +1,5 @@
 -- A search from a kept board on.
-use Rattle.std.specs.Prelude.{◌≡◌, Bool, Option, is_some, Result, Ok, Err}
+use Rattle.std.specs.Prelude.{◌≡◌, ℕ, ℤ, Bool, true, false, List, [], ◌∷◌, Option, Some, None, is_some, Result, Ok, Err}
 use Rattle.std.specs.declared.alloc.AllocError.{AllocError}
 use Rattle.disk.specs.declared.disk.Disk.{Ghosts}
 use Rattle.dp_model.specs.Dp.{Dp}
@@ -8,9 +8,20 @@ use Rattle.board_laws.specs.GoodBoard.{IsGood}
 use Rattle.board_laws.specs.declared.settings.Settings.{Settings}
 use Rattle.kept_board.specs.Kept.{IsKept}
 use Rattle.kept_board.specs.View.{KeptView}
+use Rattle.journal_bytes.specs.Base.{is_snapshot}
+use Rattle.journal_bytes.specs.Bodies.{RecordView}
+use Rattle.journal_bytes.specs.Journal.{HeadView}
+use Rattle.journal_bytes.specs.declared.head.Part.{Part}
 use Rattle.journal_bytes.specs.declared.tail.Tail.{Tail}
+use Rattle.journal_replay.specs.Accepting.{AreAccepted}
+use Rattle.journal_replay.specs.Replay.{replay_of, restored_from}
+use Rattle.journal_replay.specs.Sound.{AreSound}
 use Rattle.board.specs.View.{BoardView, tag_of}
 use Rattle.answers.specs.Answers.{IsReport}
+use Rattle.answers.specs.Journals.{HasKept, LeavesResumed}
+use Rattle.answers.specs.Kept.{searched_part}
+use Rattle.answers.specs.Outcomes.{HasSearched}
+use Rattle.answers.specs.PartSearches.{part_outcome}
 use Rattle.solver_words.specs.declared.job.JobSettings.{JobSettings}
 use Rattle.solver_report.specs.declared.answer.Answer.{Answer}
 use Rattle.solver_report.specs.declared.answer.Answer.TheVariants as answers
@@ -39,12 +50,34 @@ module _ {D : Type 0} (on : Ghosts D) where
     pub complete : IsGood dp first.board.first → IsComplete dp b.board
     pub keeps : IsKeptOn dp (is_some first.tail) first.made now b.board
 
+  -- a search has gone on from records, which are accepted, within the distance of their head, and this is told of it
+  abbrev pub IsToldOn : Dp → (List ℕ → Option ℤ) → HeadView → List RecordView → JobSettings → D → Outcome → Option Counts → Type 0
+  IsToldOn dp own head records search now outcome counts = AreAccepted dp records
+      × HasSearched dp own (λ settings. restored_from settings (replay_of dp records)) (AreSound dp head.within records) search
+      (HasKept on dp head records (LeavesResumed on head records) now) outcome counts
+
 -- the answer to how a search ended: its report, or that memory ran out
 abbrev pub IsAnswerTo : JobSettings → Result (Outcome × Option Counts) AllocError → Answer → Type 0
 IsAnswerTo search (Ok told) answer = IsReport search told.0 told.1 answer
 IsAnswerTo search (Err e) answer = answer ≡ answers.OutOfMemory
 
--- the same where no cover is asked for
-abbrev pub report_of : Result (Outcome × Option Counts) AllocError → Answer
-report_of (Ok told) = answers.Searched told.0 told.1
-report_of (Err e) = answers.OutOfMemory
+-- what was told of a search, or that memory ran out
+abbrev pub or_memory : Result (Outcome × Option Counts) AllocError → Result (Outcome × Option Counts) Answer
+or_memory (Ok told) = Ok told
+or_memory (Err e) = Err answers.OutOfMemory
+
+-- whether a search may begin with the records, by the part of which their journal is: those of a part begin with a snapshot
+abbrev pub begins_with : Option Part → List RecordView → Bool
+begins_with None records = true
+begins_with (Some part) [] = false
+begins_with (Some part) (r ∷ rs) = is_snapshot r
+
+-- the answer without a cover to what was told of a search within a distance: its report, or that of the part
+abbrev pub told_in : Option Part → ℤ → Outcome → Option Counts → Answer
+told_in None within outcome counts = answers.Searched outcome counts
+told_in (Some part) within outcome counts = answers.PartSearched (searched_part part) (part_outcome within outcome) counts
+
+-- or the answer where nothing was told
+abbrev pub report_in : Option Part → ℤ → Result (Outcome × Option Counts) Answer → Answer
+report_in part within (Ok told) = told_in part within told.0 told.1
+report_in part within (Err answer) = answer

@@ -6,6 +6,7 @@ ghost use Rattle.solver_words.specs.Words.{job_view};
 ghost use Rattle.answers.specs.Answers.{DigestsText, Draws, SolvesPart, SolvesText};
 ghost use Rattle.answers.specs.Ended.{IsInputAnswer, IsJobAnswer, IsRight, LeavesOfSearch, readings, text_limit};
 ghost use Rattle.answers.specs.Kept.{RepliesKept};
+ghost use Rattle.answers.specs.Splits.{Splits};
 
 use crate::drawing::draw;
 use crate::keeping::read_kept;
@@ -13,12 +14,12 @@ use crate::parting::part_text;
 use crate::replying::solve_text;
 use crate::resuming::resume;
 use crate::runner::Runner;
-use answers::{answer_cover, answer_parts, digest_text, unread};
+use answers::{answer_cover, answer_parts, digest_text, split_journal, unread};
 use disk::Disk;
 use problem_names::{ModelName, PartNumber};
 use problems::by_name;
 use search_workers::Gate;
-use solver_report::Answer;
+use solver_report::{Answer, ReportRefusal};
 use solver_words::{Job, JobSettings, read_words};
 use std::alloc::Global;
 use std::sync::Wait;
@@ -80,8 +81,13 @@ fn answer_job<S: Source, D: Disk + Send, G: Gate + Sync, R: Threads + Wait + Syn
             ..
         } => unreachable!(),
         Job::Resume { path, settings } => resume(run, path.as_str(), settings, disk),
+        Job::Split { path, part } => split_named(run, path.as_str(), part, disk),
         Job::Check => (answer_cover(run.alloc, input), disk),
         Job::Join => (answer_parts(run.alloc, input), disk),
+        Job::JoinReports { .. } => {
+            let refusal = ReportRefusal::Order { index: 0 };
+            (Answer::ReportsRefused(refusal), disk)
+        }
         Job::Digest { model } => (digest_input(run.alloc, model, input), disk),
         Job::Generate {
             model,
@@ -163,6 +169,20 @@ fn keep_input<S: Source, D: Disk + Send, G: Gate + Sync, R: Threads + Wait + Syn
         }
         Err(error) => (unread(error), disk),
     }
+}
+
+/// The answer with a part of the stopped search whose journal is in the named file.
+fn split_named<D: Disk, G: Gate + Sync, R: Threads + Wait + Sync>(
+    run: &Runner<'_, G, R>,
+    path: &str,
+    part: PartNumber,
+    mut disk: D,
+) -> (Answer, D)
+    requires { IsPart part }
+    ensures { Splits D.Disk part path.now disk result.1 result.0 }
+{
+    let answer = split_journal(run.alloc, &mut disk, path, part);
+    (answer, disk)
 }
 
 /// The digest of the instance in the input.

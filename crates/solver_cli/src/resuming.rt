@@ -1,19 +1,20 @@
 //! Searches that go on from a journal.
 
-ghost use Rattle.std.specs.Prelude.{◌≡◌, ◌⊎◌, ℕ, ◌^◌, ◌-◌, ◌<◌, None, length};
+ghost use Rattle.std.specs.Prelude.{◌≡◌, ◌⊎◌, ℕ, ◌^◌, ◌-◌, ◌<◌, None, length, IfErr, IfOk};
 ghost use Rattle.dp_model.specs.Distances.{IsDistance};
 ghost use Rattle.journal_bytes.specs.Journal.{head_view, journal_view};
 ghost use Rattle.problems.specs.Theories.{theory_of};
 ghost use Rattle.solver_words.specs.Possible.{MaySearch};
-ghost use Rattle.answers.specs.Kept.{GoesOn, going_on, LeavesAfterResume, MayBeAdded, MayFollow, Resumes, ResumesJournal};
+ghost use Rattle.answers.specs.Kept.{going_on, LeavesAfterResume, MayBeAdded, MayFollow, Resumes, ResumesIn, ResumesJournal};
 ghost use Rattle.solver_cli.specs.Journals.{IsOpened, LeavesOpened, TouchesNothing};
-ghost use Rattle.solver_cli.specs.Searches.{report_of};
+ghost use Rattle.solver_cli.specs.Searches.{IsToldOn, begins_with, or_memory, report_in};
+ghost use Rattle.solver_cli.specs.Starts.{DoesNotGoOn};
 
 use crate::limits::SNAPSHOT_EVERY;
 use crate::runner::Runner;
 use crate::searching::search_from;
 use crate::starting::{Start, go_on};
-use answers::open_journal;
+use answers::{open_journal, part_outcome, searched_part};
 use disk::Disk;
 use dp_model::OutOfMemory;
 use journal_bytes::{Head, Records};
@@ -92,7 +93,7 @@ fn resume_on<P: Problem, D: Disk + Send, G: Gate + Sync, R: Threads + Wait + Syn
     ensures left { LeavesOpened D.Disk (MayFollow (head_view tail.version head.now) records.now.records) (head_view tail.version head.now) records.now.records disk result.1 }
 {
     match P::read(run.alloc, head.text.as_slice()) {
-        Ok(model) => resume_search(run, head, model, records, tail, search, disk),
+        Ok(model) => resume_model(run, head, model, records, tail, search, disk),
         Err(ReadInstanceError::Refused(_)) => {
             let refused = JournalError::Malformed { offset: 0 };
             (Answer::Journal(refused), disk)
@@ -101,8 +102,9 @@ fn resume_on<P: Problem, D: Disk + Send, G: Gate + Sync, R: Threads + Wait + Syn
     }
 }
 
-/// Goes on with the search of the instance in the head from what the records make of it.
-fn resume_search<P: Problem, D: Disk + Send, G: Gate + Sync, R: Threads + Wait + Sync>(
+/// Goes on with the search of the instance in the head, or of the part of it of which the journal is. That of a part is refused at its first
+/// record if it does not begin with a snapshot.
+fn resume_model<P: Problem, D: Disk + Send, G: Gate + Sync, R: Threads + Wait + Sync>(
     run: &Runner<'_, G, R>,
     head: &Head,
     model: P,
@@ -116,8 +118,36 @@ fn resume_search<P: Problem, D: Disk + Send, G: Gate + Sync, R: Threads + Wait +
     requires distance { IsDistance head.now.within }
     requires within { records.now.within ≡ head.now.within }
     requires opened { IsOpened D.Disk (head_view tail.version head.now) records.now.records disk tail }
-    ensures goes_on { GoesOn D.Disk (P.meaning (P.numbers model)) (P.theory.own_value (P.numbers model)) (head_view tail.version head.now) records.now.records records.now.first search result.1 result.0 }
+    ensures resumes { ResumesIn D.Disk (P.meaning (P.numbers model)) (P.theory.own_value (P.numbers model)) head.now.part (head_view tail.version head.now) records.now.records records.now.first search result.1 result.0 }
     ensures refused { TouchesNothing disk result.1 result.0 }
+    ensures left { LeavesOpened D.Disk (MayBeAdded (P.meaning (P.numbers model)) head.now.within records.now.records) (head_view tail.version head.now) records.now.records disk result.1 }
+{
+    if !begins_with(head, records) {
+        let refused = JournalError::Malformed {
+            offset: records.first(),
+        };
+        return (Answer::Journal(refused), disk);
+    }
+    let (ended, disk) = resume_search(run, head, model, records, tail, search, disk);
+    (report_in(head, ended), disk)
+}
+
+/// Goes on with the search from what the records make of it, and gives how it ended, or the answer where it does not go on.
+fn resume_search<P: Problem, D: Disk + Send, G: Gate + Sync, R: Threads + Wait + Sync>(
+    run: &Runner<'_, G, R>,
+    head: &Head,
+    model: P,
+    records: &Records,
+    tail: Tail,
+    search: JobSettings,
+    disk: D,
+) -> (Result<(Outcome, Option<Counts>), Answer>, D)
+    requires may { MaySearch search }
+    requires distance { IsDistance head.now.within }
+    requires within { records.now.within ≡ head.now.within }
+    requires opened { IsOpened D.Disk (head_view tail.version head.now) records.now.records disk tail }
+    ensures told { IfOk result.0 (λ told. IsToldOn D.Disk (P.meaning (P.numbers model)) (P.theory.own_value (P.numbers model)) (head_view tail.version head.now) records.now.records (going_on (head_view tail.version head.now) search) result.1 told.0 told.1) }
+    ensures refused { IfErr result.0 (λ answer. DoesNotGoOn (P.meaning (P.numbers model)) (going_on (head_view tail.version head.now) search) records.now answer × TouchesNothing disk result.1 answer) }
     ensures left { LeavesOpened D.Disk (MayBeAdded (P.meaning (P.numbers model)) head.now.within records.now.records) (head_view tail.version head.now) records.now.records disk result.1 }
 {
     let search = going_on(head, search);
@@ -131,9 +161,9 @@ fn resume_search<P: Problem, D: Disk + Send, G: Gate + Sync, R: Threads + Wait +
         ) => {
             let kept = Kept::new(board, disk, Some(tail), SNAPSHOT_EVERY);
             let (ended, disk) = search_from(run, kept, &mut desks, &*model, search);
-            (report_of(ended), disk)
+            (or_memory(ended), disk)
         }
-        Err(answer) => (answer, disk),
+        Err(answer) => (Err(answer), disk),
     }
 }
 
@@ -147,12 +177,45 @@ fn going_on(head: &Head, search: JobSettings) -> JobSettings
     }
 }
 
-/// The answer to how a search without a cover ended: its report, or that memory ran out.
-fn report_of(ended: Result<(Outcome, Option<Counts>), OutOfMemory>) -> Answer
-    ensures { result ≡ report_of ended }
+/// Whether a search may begin with the records: those of the journal of a part begin with a snapshot.
+fn begins_with(head: &Head, records: &Records) -> bool
+    ensures { result ≡ begins_with head.now.part records.now.records }
+{
+    if head.part.is_none() {
+        return true;
+    }
+    match records.as_slice() {
+        [first, ..] => first.is_snapshot(),
+        [] => false,
+    }
+}
+
+/// How a search ended, or the answer that memory ran out.
+fn or_memory(
+    ended: Result<(Outcome, Option<Counts>), OutOfMemory>,
+) -> Result<(Outcome, Option<Counts>), Answer>
+    ensures { result ≡ or_memory ended }
 {
     match ended {
-        Ok((outcome, counts)) => Answer::Searched(outcome, counts),
-        Err(_) => Answer::OutOfMemory,
+        Ok(told) => Ok(told),
+        Err(_) => Err(Answer::OutOfMemory),
+    }
+}
+
+/// The answer to how a search without a cover ended: its report, or that of the part of which the journal is.
+fn report_in(head: &Head, ended: Result<(Outcome, Option<Counts>), Answer>) -> Answer
+    ensures { result ≡ report_in head.now.part head.now.within ended }
+{
+    let (outcome, counts) = match ended {
+        Ok(told) => told,
+        Err(answer) => return answer,
+    };
+    match head.part {
+        None => Answer::Searched(outcome, counts),
+        Some(part) => Answer::PartSearched {
+            part: searched_part(part),
+            outcome: part_outcome(outcome, head.within),
+            counts,
+        },
     }
 }

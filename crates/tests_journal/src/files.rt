@@ -49,10 +49,12 @@ type Count = Result<usize, JournalError>;
 pub(crate) fn head_of_text(rt: &impl Abort, alloc: Global, text: &[u8]) -> Head
     ensures text { result.text.items ≡ text.now }
     ensures within { result.within ≡ pos 0 }
+    ensures part { result.part ≡ None }
 {
     Head {
         model: ModelName::Knapsack,
         within: 0,
+        part: None,
         text: Vec::from_slice(alloc, text).expect(rt, "memory"),
     }
 }

@@ -46,7 +46,7 @@ returns-clause-since g c =
     let new = c.begin.new.disk in
     let h = c.head_of-head in
     let read : to_z w64 (of_z w64 c.args.search.within) ≡ c.args.search.within = search rules in
-    let head = same-head h.result c.args.name c.args.search.within (g.P.Problem.theory.canonical (g.P.DpModel.numbers c.args.model.now)) h.ensures.model (h.ensures.within ∙ read) (h.ensures.text ∙ c.in_ok-text.ensures.text) in
+    let head = same-head h.result c.args.name c.args.search.within (g.P.Problem.theory.canonical (g.P.DpModel.numbers c.args.model.now)) h.ensures.model (h.ensures.within ∙ read) h.ensures.part (h.ensures.text ∙ c.in_ok-text.ensures.text) in
     let keeps = c.begin.ensures.keeps in
     after-attaching g.D.Disk mid new (λ s. MayBegin s.content → LeavesSince g.D.Disk.moment g.D.Disk.left_since s new (IsBegun (head_of g.P.Problem.theory c.args.name c.args.search.within (g.P.DpModel.numbers c.args.model.now)))) keeps.still_tells c.attach.ensures.found keeps.same_found
     (λ tells. at-first (g.D.Disk.start new) (g.D.Disk.seen mid) (g.D.Disk.seen new) _ _ (λ s x may. subst (λ h. LeavesSince g.D.Disk.moment g.D.Disk.left_since s new (IsBegun h)) head (x.1 may)) (c.begin.ensures.since tells c.attach.ensures.start))

@@ -16,9 +16,9 @@ returns-in-Ok-clause-left g c =
     let rs = job.records.now.records in
     let m = c.in-Ok.model in
     let dp = g.P.DpModel.meaning (g.P.DpModel.numbers m) in
-    leaves-by g.D.Disk (MayBeAdded dp job.head.now.within rs) (MayFollow head rs) head rs job.disk c.resume_search.result.1
+    leaves-by g.D.Disk (MayBeAdded dp job.head.now.within rs) (MayFollow head rs) head rs job.disk c.resume_model.result.1
     (λ more added. may-follow g.P.Problem.theory dp head rs more (g.P.DpModel.numbers m) c.requires.named (subst (λ (text : List ℕ). g.P.Problem.theory.spelled text ≡ Ok (g.P.DpModel.numbers m)) c.as_slice.ensures.value c.in-Ok.ensures) (same_program g m) added)
-    c.resume_search.ensures.left
+    c.resume_model.ensures.left
 
 pub returns-in-Err-Refused-clause-left : goal.returns-in-Err-Refused-clause-left
 returns-in-Err-Refused-clause-left g c =

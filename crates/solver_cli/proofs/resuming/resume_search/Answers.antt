@@ -1,12 +1,15 @@
-use Rattle.std.proofs.Common.{◌≡◌, Some, true, is_some, ap, subst, sym, ◌∙◌}
+use Rattle.std.proofs.Common.{◌≡◌, Some, true, is_some, ap, subst, sym, ◌∙◌, IfOk, IfErr}
 use Rattle.answers.proofs.Journaled.{made-resumed, none-follow}
 use Rattle.kept_board.specs.Kept.{MayKeep}
 use Rattle.dp_model.specs.Laws.{IsLawful}
 use Rattle.journal_bytes.specs.Journal.{head_view}
-use Rattle.answers.specs.Kept.{GoesOn, MayBeAdded, going_on}
+use Rattle.answers.specs.Kept.{MayBeAdded, going_on}
 use Rattle.journal_replay.specs.Sound.{AreSound}
 use Rattle.solver_words.specs.declared.job.JobSettings.{JobSettings}
-use Rattle.solver_cli.proofs.GoingOn.{first-good, first-restored, gone-on, leaves, leaves-it, may-go-on, not-gone-on, reported}
+use Rattle.solver_cli.specs.Journals.{TouchesNothing}
+use Rattle.solver_cli.specs.Searches.{IsToldOn}
+use Rattle.solver_cli.specs.Starts.{DoesNotGoOn}
+use Rattle.solver_cli.proofs.GoingOn.{first-good, first-restored, gone-on, leaves, leaves-it, may-go-on, or-refused, told-on, untouched}
 use Rattle.solver_cli.proofs.Told.{keeps-here, searched-here}
 use Rattle.solver_cli.proofs.resuming.resume_search.Given as given
 use Rattle.problem_theory.specs.Theory.{Agrees}
@@ -18,8 +21,8 @@ laws_of g m = (g.met.P.DpModel g.world.𝓛 g.world.𝓜 g.world.𝓡 ((λ s x. 
 agrees_of : (g : given.Over) (m : g.row.P.Denot) → Agrees (g.P.DpModel.meaning (g.P.DpModel.numbers m)) (g.P.Problem.theory.own_value (g.P.DpModel.numbers m))
 agrees_of g m = (g.met.P.Problem g.world.𝓛 g.world.𝓜 g.world.𝓡 ((λ s x. x), (λ x. x), (λ x. x), λ x. x)).agrees m
 
-pub returns-in-Ok-clause-goes_on : goal.returns-in-Ok-clause-goes_on
-returns-in-Ok-clause-goes_on g c =
+pub returns-in-Ok-clause-told : goal.returns-in-Ok-clause-told
+returns-in-Ok-clause-told g c =
     let meaning = g.P.DpModel.meaning in
     let here = g.P.DpModel.numbers c.args.model in
     let dp = meaning here in
@@ -40,8 +43,17 @@ returns-in-Ok-clause-goes_on g c =
     let searched = searched-here g.D.Disk meaning (g.P.DpModel.numbers c.deref.result.now) here at c.new-kept.result board c.args.disk true kept.board kept.made (ap is_some kept.tail) now own search ended (c.search_from-ended.ensures.searched (own (g.P.DpModel.numbers c.deref.result.now)) (agrees_of g c.deref.result.now)) in
     let gone = gone-on g.D.Disk dp (own here) head records.records search c.args.disk c.args.tail c.requires.opened now board.first on.accepted (first-restored dp search records board start.desks on)
     (λ sound. first-good dp (laws_of g c.args.model) search records board start.desks may on (subst (λ z. AreSound dp z records.records) (sym near) sound)) ended searched in
-    subst (GoesOn g.D.Disk dp (own here) head records.records records.first c.args.search now) (sym c.report_of.ensures)
-    (reported g.D.Disk dp (own here) head records.records search c.args.search same records.first now c.requires.coverless ended gone)
+    subst (λ r. IfOk r (λ told. IsToldOn g.D.Disk dp (own here) head records.records (going_on head c.args.search) now told.0 told.1)) (sym c.or_memory.ensures)
+    (told-on g.D.Disk dp (own here) head records.records search c.args.search same now ended gone)
+
+pub returns-in-Ok-clause-refused : goal.returns-in-Ok-clause-refused
+returns-in-Ok-clause-refused g c =
+    let dp = g.P.DpModel.meaning (g.P.DpModel.numbers c.args.model) in
+    let own = g.P.Problem.theory.own_value (g.P.DpModel.numbers c.args.model) in
+    let head = head_view c.args.tail.version c.args.head.now in
+    let now = c.search_from-ended.result.1 in
+    subst (λ r. IfErr r (λ answer. DoesNotGoOn dp (going_on head c.args.search) c.args.records.now answer × TouchesNothing c.args.disk now answer)) (sym c.or_memory.ensures)
+    (or-refused g.D.Disk dp own head c.args.records.now.records c.args.records.now c.args.search c.args.disk now c.search_from-ended.result.0)
 
 pub returns-in-Ok-clause-left : goal.returns-in-Ok-clause-left
 returns-in-Ok-clause-left g c =
@@ -69,11 +81,12 @@ go_on-requires-clause-may g c κs within =
 pub go_on-requires-clause-within : goal.go_on-requires-clause-within
 go_on-requires-clause-within g c κs within = ap (λ (s : JobSettings). s.within) (c.going_on-search.ensures c.args.tail.version) ∙ sym c.requires.within
 
-pub returns-in-Err-clause-goes_on : goal.returns-in-Err-clause-goes_on
-returns-in-Err-clause-goes_on g c =
-    let here = g.P.DpModel.numbers c.args.model in
+pub returns-in-Err-clause-refused : goal.returns-in-Err-clause-refused
+returns-in-Err-clause-refused g c =
+    let dp = g.P.DpModel.meaning (g.P.DpModel.numbers c.args.model) in
     let head = head_view c.args.tail.version c.args.head.now in
-    not-gone-on g.D.Disk (g.P.DpModel.meaning here) (g.P.Problem.theory.own_value here) head c.args.records.now c.args.search c.args.disk c.going_on-search.result (c.going_on-search.ensures c.args.tail.version) c.in-Err.answer c.in-Err.ensures.refused
+    let answer = c.in-Err.answer in
+    (subst (λ (s : JobSettings). DoesNotGoOn dp s c.args.records.now answer) (c.going_on-search.ensures c.args.tail.version) c.in-Err.ensures.refused, untouched c.args.disk answer)
 
 pub new-kept-requires-clause-made : goal.new-kept-requires-clause-made
 new-kept-requires-clause-made g c κs within =
