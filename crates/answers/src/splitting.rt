@@ -109,12 +109,12 @@ fn split_model<M: DpModel>(
 
 /// The answer with the bytes of a part whose journal has this record, where the search was split whose journal has the head and ends with the
 /// tail.
-fn part_file(alloc: Global, head: Head, tail: Tail, part: PartNumber, record: &Record) -> Answer
+fn part_file(alloc: Global, head: Head, tail: Tail, part: PartNumber, entry: &Record) -> Answer
     requires part { IsPart part }
     requires text { length head.text.items < 2 ^ 32 - 1 }
     requires distance { IsDistance head.within }
-    requires tickets { HasTickets (record_view record.now) }
-    ensures { IsFileOf (part_head (head_view tail.version head) tail.digest part) (record_view record.now) result }
+    requires tickets { HasTickets (record_view entry.now) }
+    ensures { IsFileOf (part_head (head_view tail.version head) tail.digest part) (record_view entry.now) result }
 {
     let digest = tail.digest;
     let of_part = Part {
@@ -126,7 +126,7 @@ fn part_file(alloc: Global, head: Head, tail: Tail, part: PartNumber, record: &R
         part: Some(of_part),
         ..head
     };
-    match part_bytes(alloc, &head, record) {
+    match part_bytes(alloc, &head, entry) {
         Ok(bytes) => Answer::PartFile(bytes),
         Err(PartError::TooLarge) => Answer::PartTooLarge,
         Err(PartError::OutOfMemory) => Answer::OutOfMemory,
