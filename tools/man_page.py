@@ -18,6 +18,8 @@ SYNOPSIS = (
     "resume FILE [OPTION]..",
     "check",
     "join",
+    "split FILE --part I/K",
+    "join --journal FILE",
     "digest MODEL",
     "generate MODEL N SEED [--solve]",
 )

@@ -8,7 +8,7 @@
 The program is proved; this package is not. What a result says of bounds and of best solutions is what the program printed.
 """
 
-from .answers import Outcome, Result, Stop, Verdict
+from .answers import Outcome, PartOutcome, PartResult, Result, Stop, Verdict
 from .errors import (
     CoverRefused,
     HammockdoveError,
@@ -20,17 +20,21 @@ from .errors import (
     NotBegun,
     ProgramFailed,
     Refused,
+    ReportRefused,
+    ReportsRefused,
     TableRefused,
     TextRefused,
     UnknownProblem,
     WordsRefused,
 )
 from .instances import PROBLEMS, Instance, Knapsack, Max2Sat, MaxCut, Qubo, Table, Tardiness, Tsptw
+from .journal import Part
 from .progress import Progress
-from .solver import Interrupted, Solver
+from .solver import Interrupted, PartInterrupted, Solver
 
 __all__ = [
     "PROBLEMS", "CoverRefused", "HammockdoveError", "InputTooLong", "Instance", "InstanceRefused", "Interrupted", "InvalidInstance",
-    "JournalDamaged", "JournalRefused", "Knapsack", "Max2Sat", "MaxCut", "NotBegun", "Outcome", "ProgramFailed", "Progress", "Qubo", "Refused",
-    "Result", "Solver", "Stop", "Table", "TableRefused", "Tardiness", "TextRefused", "Tsptw", "UnknownProblem", "Verdict", "WordsRefused",
+    "JournalDamaged", "JournalRefused", "Knapsack", "Max2Sat", "MaxCut", "NotBegun", "Outcome", "Part", "PartInterrupted", "PartOutcome",
+    "PartResult", "ProgramFailed", "Progress", "Qubo", "Refused", "ReportRefused", "ReportsRefused", "Result", "Solver", "Stop", "Table",
+    "TableRefused", "Tardiness", "TextRefused", "Tsptw", "UnknownProblem", "Verdict", "WordsRefused",
 ]  # fmt: skip

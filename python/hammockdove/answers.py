@@ -13,14 +13,18 @@ from .errors import (
     InstanceRefused,
     JournalRefused,
     ProgramFailed,
+    ReportRefused,
+    ReportsRefused,
     TableRefused,
     UnknownProblem,
     WordsRefused,
 )
+from .journal import Part
 
 NOTHING_SOLVED = 69
 _NOT_KNOWN = "this program does not know the problem"
 _EXCERPT = 60
+_REPORT = frozenset({"value", "assignment", "bound", "taken", "finished"})
 
 
 class Outcome(Enum):
@@ -91,6 +95,53 @@ class Result:
         return f"{self.outcome.value}{stopped}: value {self.value}, bound {self.bound}, gap {self.gap}"
 
 
+class PartOutcome(Enum):
+    """How the search of a part ended."""
+
+    SETTLED = "settled"
+    STOPPED = "stopped"
+
+
+@dataclass(frozen=True)
+class PartResult:
+    """What the search of a part of a split search found, and what is proved of the part.
+
+    `part` is its number, how many parts there are, and the digest of the journal that was split. `value` and `assignment` are those of the
+    best solution that this part or the search before it found, or None where there is none. No solution of the part is worth more than
+    `bound`; it is None where a settled part has no feasible solution. `text` is the report as the program printed it, which
+    `Solver.join_parts` reads. The other fields are those of `Result`.
+    """
+
+    outcome: PartOutcome
+    part: Part
+    value: int | None = None
+    assignment: tuple[int, ...] | None = None
+    bound: int | None = None
+    within: int = 0
+    stop: Stop | None = None
+    taken: int | None = None
+    finished: int | None = None
+    journal: Path | None = None
+    seconds: float = 0.0
+    text: bytes = b""
+
+    @property
+    def is_settled(self) -> bool:
+        """Whether nothing of the part is left to do, so that its report can be joined."""
+        return self.outcome is PartOutcome.SETTLED
+
+    @property
+    def proves(self) -> str:
+        """What is proved of the part, as a sentence. It rests on the journals' records being this program's own."""
+        if self.bound is None:
+            return "The part has no feasible solution." if self.is_settled else "Nothing."
+        return f"No solution of the part is worth more than {self.bound}."
+
+    def __str__(self) -> str:
+        stopped = f" ({self.stop.value})" if self.stop else ""
+        return f"part {self.part} {self.outcome.value}{stopped}: value {self.value}, bound {self.bound}"
+
+
 @dataclass(frozen=True)
 class Verdict:
     """Whether `check` accepted a report. `test` names the first test that fails, and `place` has its layer, row and decision."""
@@ -115,15 +166,13 @@ def result_of(text: bytes, status: int, given: bytes = b"") -> Result:
     head, cover = _split(text)
     lines = _lines(head, status)
     kind, _, rest = lines[0].partition(" ")
-    if kind not in (it.value for it in Outcome):
+    if kind not in (it.value for it in Outcome) or _is_of_part(lines):
         raise error_of(text, status, given)
-    fields = {name: words for name, _, words in (line.partition(" ") for line in lines[1:] if line != "out of memory")}
-    if not fields.keys() <= {"value", "assignment", "bound", "taken", "finished"}:
-        raise Unreadable(f"unknown lines after {lines[0]!r}: {sorted(fields)}")
+    fields = _fields(lines, _REPORT)
     result = Result(
         Outcome(kind),
         value=_number(fields.get("value")),
-        assignment=tuple(map(int, fields["assignment"].split())) if "assignment" in fields else None,
+        assignment=_assignment(fields),
         bound=_number(fields.get("bound")),
         taken=_number(fields.get("taken")),
         finished=_number(fields.get("finished")),
@@ -133,8 +182,37 @@ def result_of(text: bytes, status: int, given: bytes = b"") -> Result:
     )
     if result.outcome is Outcome.STOPPED:
         return replace(result, stop=Stop(rest))
-    within = int(rest.removeprefix("within ") or 0)
+    within = _distance(rest)
     return replace(result, within=within, bound=None if result.value is None else result.value + within)
+
+
+def part_result_of(text: bytes, status: int) -> PartResult:
+    """The result of a part that the program printed. Raises the refusal or the failure that it printed in its place."""
+    lines = _lines(text, status)
+    kind, _, rest = lines[0].partition(" ")
+    if kind not in (it.value for it in PartOutcome) or not _is_of_part(lines):
+        raise error_of(text, status)
+    fields = _fields(lines, _REPORT | {"part", "journal"})
+    index, _, of = fields["part"].partition("/")
+    result = PartResult(
+        PartOutcome(kind),
+        Part(int(index), int(of), fields["journal"]),
+        value=_number(fields.get("value")),
+        assignment=_assignment(fields),
+        bound=_number(fields.get("bound")),
+        taken=_number(fields.get("taken")),
+        finished=_number(fields.get("finished")),
+        text=text,
+    )
+    if result.outcome is PartOutcome.STOPPED:
+        return replace(result, stop=Stop(rest))
+    within = _distance(rest)
+    return replace(result, within=within, bound=None if result.value is None else result.value + within)
+
+
+def is_of_part(text: bytes) -> bool:
+    """Whether the program printed the report of a part."""
+    return _is_of_part(text.decode("ascii", "replace").splitlines())
 
 
 def verdict_of(text: bytes, status: int) -> Verdict:
@@ -156,11 +234,17 @@ def error_of(text: bytes, status: int, given: bytes = b"") -> HammockdoveError:
     words = answer.split()
     if answer == "input too-long":
         return InputTooLong(answer, status, "the input is longer than what the program reads")
+    if answer == "part too-long":
+        return InputTooLong(answer, status, "a record of the part is longer than what a journal holds")
     if words[0] == "instance" and len(words) == 4:
         line, column = int(words[2]), int(words[3])
         return InstanceRefused(answer, status, words[1], line, column, _excerpt(given, line))
     if words[0] == "cover" and len(words) == 4:
         return CoverRefused(answer, status, words[1], int(words[2]), int(words[3]))
+    if words[0] == "report" and len(words) == 4:
+        return ReportRefused(answer, status, words[1], int(words[2]), int(words[3]))
+    if words[0] == "reports" and len(words) == 3:
+        return ReportsRefused(answer, status, words[1], int(words[2]))
     if words[0] == "journal":
         return JournalRefused(answer, status, words[1], int(words[2]) if len(words) > 2 else None)
     if answer == "words model":
@@ -199,6 +283,28 @@ def _failure(status: int) -> ProgramFailed:
     if status < 0:
         return ProgramFailed(f"the program was ended by signal {-status}", status)
     return ProgramFailed(f"the program printed nothing, and ended with status {status}", status)
+
+
+def _is_of_part(lines: list[str]) -> bool:
+    """Whether these lines are the report of a part: its second one tells which part."""
+    return len(lines) > 2 and lines[1].startswith("part ") and lines[2].startswith("journal ")
+
+
+def _fields(lines: list[str], known: frozenset[str]) -> dict[str, str]:
+    """What follows the names in the lines after the first one."""
+    fields = {name: words for name, _, words in (line.partition(" ") for line in lines[1:] if line != "out of memory")}
+    if not fields.keys() <= known:
+        raise Unreadable(f"unknown lines after {lines[0]!r}: {sorted(fields)}")
+    return fields
+
+
+def _assignment(fields: dict[str, str]) -> tuple[int, ...] | None:
+    return tuple(map(int, fields["assignment"].split())) if "assignment" in fields else None
+
+
+def _distance(rest: str) -> int:
+    """The distance that follows the first word of a report, 0 where none does."""
+    return int(rest.removeprefix("within ") or 0)
 
 
 def _number(word: str | None) -> int | None:

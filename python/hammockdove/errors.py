@@ -61,8 +61,28 @@ class CoverRefused(Refused):
         super().__init__(answer, status, f"no report with a cover, {fault} at line {line}, column {column}")
 
 
+class ReportRefused(Refused):
+    """The text that `join` was given is not the reports of settled parts. Its fields are those of `InstanceRefused`."""
+
+    def __init__(self, answer: str, status: int, fault: str, line: int, column: int) -> None:
+        self.fault, self.line, self.column = fault, line, column
+        super().__init__(answer, status, f"no report of a settled part, {fault} at line {line}, column {column}")
+
+
+class ReportsRefused(Refused):
+    """The reports are not those of all parts of the journal, in order.
+
+    `index` is the place of the first report at fault, from 0. `cause` is `order` if another part or none stands there, `journal` if it is of
+    another journal, `distance` if it is within another distance, and `value` if its assignment does not have its value.
+    """
+
+    def __init__(self, answer: str, status: int, cause: str, index: int) -> None:
+        self.cause, self.index = cause, index
+        super().__init__(answer, status, f"reports of parts refused, {cause} at part {index}")
+
+
 class InputTooLong(Refused):
-    """The input is longer than what the program reads: 2^26 bytes, or 2^28 bytes for `check`."""
+    """The input is longer than what the program reads: 2^26 bytes, or 2^28 bytes for `check` and `join`; or a part does not fit in a journal."""
 
 
 class UnknownProblem(Refused):

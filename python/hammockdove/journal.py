@@ -1,4 +1,4 @@
-"""Reads a search's journal, versions 1 and 2, without changing it and also while a search writes it (docs/FORMATS.md, "Journals").
+"""Reads a search's journal, versions 1 to 3, without changing it and also while a search writes it (docs/FORMATS.md, "Journals").
 
 The reader tests the bytes: gates, digests, lengths and fields. Whether a record may follow where it stands is tested by the program,
 when it resumes the journal.
@@ -15,7 +15,7 @@ from typing import NamedTuple, NoReturn
 
 from .errors import JournalDamaged, NotBegun
 
-VERSIONS = (1, 2)
+VERSIONS = (1, 2, 3)
 MODELS = {1: "knapsack", 2: "maxcut", 3: "max2sat", 4: "tsptw", 5: "tardiness", 6: "table", 7: "qubo"}
 MOST_WITHIN = 2**50
 
@@ -24,16 +24,37 @@ _NO_TICKET = 2**64 - 1
 _OPEN = b"\x01"
 _FRAME = struct.Struct(">BI")
 _DIGEST_BYTES = 32
+_PART_VERSION = 3
 _FRAMING = 1 + _FRAME.size + _DIGEST_BYTES
 
 
+@dataclass(frozen=True)
+class Part:
+    """A part of a search that was split: its number from 0 on, how many parts there are, and the digest of the journal that was split.
+
+    `digest` is that of the last record of that journal, in hexadecimal: `Journal.digest` once all of it is read.
+    """
+
+    index: int
+    of: int
+    digest: str
+
+    def __str__(self) -> str:
+        return f"{self.index}/{self.of}"
+
+
 class Head(NamedTuple):
-    """Which search the journal is of. `within` is its distance, 0 in version 1; `text` is the canonical text of the instance."""
+    """Which search the journal is of.
+
+    `within` is its distance, 0 in version 1; `text` is the canonical text of the instance. `part` is the part that the journal is of, in
+    version 3, and None where it is of a whole search.
+    """
 
     version: int
     model: str
     within: int
     text: bytes
+    part: Part | None = None
 
 
 class Improve(NamedTuple):
@@ -67,7 +88,7 @@ class Subproblem(NamedTuple):
 
 
 class Snapshot(NamedTuple):
-    """All that is open, from which a replay may begin (version 2)."""
+    """All that is open, from which a replay may begin (versions 2 and 3)."""
 
     incumbent: Improve | None
     next_ticket: int
@@ -92,6 +113,11 @@ class Journal:
     head: Head | None = None
     offset: int = 0
     _digest: bytes = bytes(_DIGEST_BYTES)
+
+    @property
+    def digest(self) -> str:
+        """The digest of the last record that was read, in hexadecimal; parts name the journal that was split by it."""
+        return self._digest.hex()
 
     def advance(self) -> Iterator[Entry]:
         """The records that came since the last call, up to the first closed gate.
@@ -169,6 +195,19 @@ class _Body:
         self._at += length
         return found
 
+    def part(self) -> Part:
+        found = Part(self.u32(), self.u32(), self.digest())
+        if found.index >= found.of:
+            self.refuse(f"it is part {found.index}, and there are {found.of}")
+        return found
+
+    def digest(self) -> str:
+        found = self._data[self._at : self._at + _DIGEST_BYTES]
+        if len(found) < _DIGEST_BYTES:
+            self.refuse("its digest does not fit in it")
+        self._at += _DIGEST_BYTES
+        return found.hex()
+
     def improve(self) -> Improve:
         return Improve(self.i64(), self.decisions())
 
@@ -213,14 +252,15 @@ def _fields(kind: int, body: _Body, head: Head | None, offset: int) -> Record:
 def _head(body: _Body, offset: int) -> Head:
     version = body.u32()
     if version not in VERSIONS:
-        raise JournalDamaged("version", offset, f"version {version}, and this reader knows 1 and 2")
+        raise JournalDamaged("version", offset, f"version {version}, and this reader knows 1 to 3")
     number = body.byte()
     if number not in MODELS:
         body.refuse(f"its problem is number {number}")
     within = body.i64() if version > 1 else 0
     if not 0 <= within <= MOST_WITHIN:
         body.refuse(f"its distance is {within}")
-    return Head(version, MODELS[number], within, body.text())
+    part = body.part() if version == _PART_VERSION else None
+    return Head(version, MODELS[number], within, body.text(), part)
 
 
 def _child(body: _Body) -> Child:

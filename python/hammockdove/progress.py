@@ -37,8 +37,8 @@ class Progress:
 
     @property
     def is_done(self) -> bool:
-        """Whether nothing is left to do: a journal ends with this."""
-        return self.finished > 0 and self.open == 0
+        """Whether nothing is left to do: a journal ends with this. That of a part may have nothing to do from its first Snapshot on."""
+        return self.model != "" and self.open == 0
 
 
 class Tracker:

@@ -80,6 +80,8 @@ def lines_of(found: Contents) -> Iterator[str]:
     yield f"version {head.version}"
     yield f"problem {head.model}"
     yield f"within {head.within}"
+    if head.part is not None:
+        yield f"part {head.part} of journal {head.part.digest}"
     yield f"instance {len(head.text)} bytes"
     kinds = ", ".join(f"{found.counts[kind]} {kind.__name__}" for kind in _KINDS)
     yield f"records {found.counts.total()}: {kinds}"

@@ -8,15 +8,26 @@ import signal
 import subprocess
 import tempfile
 import time
-from collections.abc import Callable
+from collections.abc import Callable, Iterable
 from dataclasses import dataclass, replace
 from pathlib import Path
 from typing import IO, Literal
 
-from .answers import Outcome, Result, Stop, Verdict, error_of, result_of, verdict_of
-from .errors import HammockdoveError, JournalRefused, NotBegun, ProgramFailed
+from .answers import (
+    Outcome,
+    PartResult,
+    Result,
+    Stop,
+    Verdict,
+    error_of,
+    is_of_part,
+    part_result_of,
+    result_of,
+    verdict_of,
+)
+from .errors import HammockdoveError, JournalDamaged, JournalRefused, NotBegun, ProgramFailed
 from .instances import PROBLEMS, Instance
-from .journal import Journal
+from .journal import Head, Journal
 from .progress import Progress, Tracker
 
 PROGRAM = "HAMMOCKDOVE"
@@ -33,8 +44,20 @@ class Interrupted(KeyboardInterrupt):
 
     def __init__(self, result: Result) -> None:
         self.result = result
-        kept = f"; resume {str(result.journal)!r}" if result.journal else "; no journal was kept"
-        super().__init__(f"{result}{kept}")
+        super().__init__(_kept_by(result))
+
+
+class PartInterrupted(KeyboardInterrupt):
+    """The same of the search of a part: `result` has what the part had found."""
+
+    def __init__(self, result: PartResult) -> None:
+        self.result = result
+        super().__init__(_kept_by(result))
+
+
+def _kept_by(result: Result | PartResult) -> str:
+    kept = f"; resume {str(result.journal)!r}" if result.journal else "; no journal was kept"
+    return f"{result}{kept}"
 
 
 @dataclass(frozen=True)
@@ -106,19 +129,77 @@ class Solver:
         progress: Callable[[Progress], object] | None = None,
         every: float = 1.0,
     ) -> Result:
-        """Goes on with the search of a journal. Options and errors are those of `solve`; the journal stays."""
-        _require(journal)
+        """Goes on with the whole search of a journal. Options and errors are those of `solve`; the journal stays."""
+        _require_whole(journal)
         words = ["resume", str(journal), *_options(workers=workers, parts=parts, width=width, cutset=cutset, budget=budget), "--stats"]
         result = self._search(words, b"", Path(journal), timeout, progress, every)
         return replace(result, within=_distance_of(Path(journal)))
 
     def status(self, journal: str | Path) -> Result:
-        """What the search of a journal that no program writes to has found so far, by the program itself."""
+        """What the whole search of a journal that no program writes to has found so far, by the program itself."""
         began = time.monotonic()
-        _require(journal)
+        _require_whole(journal)
         text, status = self._run(["resume", str(journal), "--budget", "0"], b"")
         found = replace(result_of(text, status), journal=Path(journal), within=_distance_of(Path(journal)))
         return replace(found, seconds=time.monotonic() - began)
+
+    def split(self, journal: str | Path, index: int, of: int) -> bytes:
+        """Part `index` (from 0) of `of` of the stopped search in a journal that no program writes to: the bytes of the part's own journal.
+
+        Write them to a file, on any machine, and go on with it by `resume_part`. The journal is not changed, and must stay as it is until
+        the parts are joined. The same journal gives the same parts. It may be that of a part itself.
+        """
+        _require(journal)
+        text, status = self._run(["split", str(journal), "--part", f"{index}/{of}"], b"")
+        if status != 0:
+            raise error_of(text, status)
+        return text
+
+    def resume_part(
+        self,
+        journal: str | Path,
+        *,
+        timeout: float | None = None,
+        workers: int | None = None,
+        parts: int | None = None,
+        width: int | None = None,
+        cutset: Literal["lel", "frontier"] | None = None,
+        budget: int | None = None,
+        progress: Callable[[Progress], object] | None = None,
+        every: float = 1.0,
+    ) -> PartResult:
+        """Goes on with the part of a search in a journal that `split` gave. Options and errors are those of `resume`; the journal stays.
+
+        With `budget=0` it tells what the part has found so far. Ctrl-C raises `PartInterrupted`.
+        """
+        _require_part(journal)
+        words = ["resume", str(journal), *_options(workers=workers, parts=parts, width=width, cutset=cutset, budget=budget), "--stats"]
+        began = time.monotonic()
+        text, status, stop = self._wait_for(words, b"", Path(journal), timeout, progress, every)
+        if stop is not None:
+            text, status = self._run(["resume", str(journal), "--budget", "0"], b"")
+        result = replace(part_result_of(text, status), journal=Path(journal), within=_distance_of(Path(journal)), seconds=time.monotonic() - began)
+        if stop is not None and not result.is_settled:
+            result = replace(result, stop=stop)
+        if stop is Stop.INTERRUPT:
+            raise PartInterrupted(result)
+        return result
+
+    def join_parts(self, journal: str | Path, reports: Iterable[PartResult | bytes | str]) -> Result | PartResult:
+        """What the settled parts of a journal that was split prove together.
+
+        `reports` are those of all parts, in order: results of `resume_part`, or what the program printed. It is a `Result` for the whole
+        search, and a `PartResult` if the journal is that of a part itself. The program tests that each report is of this journal and that
+        each assignment has its value; that the parts are settled rests on whoever searched them.
+        """
+        _require(journal)
+        began = time.monotonic()
+        given = b"".join(it.text if isinstance(it, PartResult) else it.encode() if isinstance(it, str) else it for it in reports)
+        text, status = self._run(["join", "--journal", str(journal)], given)
+        more = {"journal": Path(journal), "seconds": time.monotonic() - began}
+        if is_of_part(text):
+            return replace(part_result_of(text, status), **more)
+        return replace(result_of(text, status), **more)
 
     def check(self, report: Result | bytes | str) -> Verdict:
         """Whether a report is true, by the cover after it. A result must come from `solve` with `cover=True`."""
@@ -167,6 +248,26 @@ class Solver:
         progress: Callable[[Progress], object] | None,
         every: float,
     ) -> Result:
+        """What a whole search found. Raises `Interrupted` at Ctrl-C."""
+        began = time.monotonic()
+        text, status, stop = self._wait_for(words, given, journal, timeout, progress, every)
+        result = result_of(text, status, given) if stop is None else self._stopped(journal, stop)
+        result = replace(result, journal=journal if result.journal is None and stop is None else result.journal)
+        result = replace(result, seconds=time.monotonic() - began)
+        if stop is Stop.INTERRUPT:
+            raise Interrupted(result)
+        return result
+
+    def _wait_for(
+        self,
+        words: list[str],
+        given: bytes,
+        journal: Path | None,
+        timeout: float | None,
+        progress: Callable[[Progress], object] | None,
+        every: float,
+    ) -> tuple[bytes, int, Stop | None]:
+        """What a search prints, its status, and what stopped it from here, if something did: then it was killed."""
         began = time.monotonic()
         watcher = _Watcher(journal, progress, every) if journal is not None and progress is not None else None
         stop: Stop | None = None
@@ -182,13 +283,7 @@ class Solver:
                 finally:
                     _kill(child)
             sink.seek(0)
-            text = sink.read()
-        result = result_of(text, child.returncode, given) if stop is None else self._stopped(journal, stop)
-        result = replace(result, journal=journal if result.journal is None and stop is None else result.journal)
-        result = replace(result, seconds=time.monotonic() - began)
-        if stop is Stop.INTERRUPT:
-            raise Interrupted(result)
-        return result
+            return sink.read(), child.returncode, stop
 
     def _stopped(self, journal: Path | None, stop: Stop) -> Result:
         """What a search that was killed had found."""
@@ -294,11 +389,40 @@ def _require(journal: str | Path) -> None:
         raise NotBegun(f"{journal} is not there")
 
 
+def _head_of(path: str | Path) -> Head | None:
+    """The head of a journal, None where it has not begun."""
+    journal = Journal(Path(path))
+    next(journal.advance(), None)
+    return journal.head
+
+
+def _require_whole(journal: str | Path) -> None:
+    """Refuses a file that is not there, and the journal of a part."""
+    _require(journal)
+    if _is_part(journal):
+        raise HammockdoveError(f"{journal} is the journal of a part of a search: resume_part goes on with it")
+
+
+def _require_part(journal: str | Path) -> None:
+    """Refuses a file that is not there, and the journal of a whole search."""
+    _require(journal)
+    if not _is_part(journal):
+        raise HammockdoveError(f"{journal} is not the journal of a part of a search: resume goes on with that of a whole one")
+
+
+def _is_part(journal: str | Path) -> bool:
+    """Whether a journal is that of a part. What this reader does not take is left to the program."""
+    try:
+        head = _head_of(journal)
+    except JournalDamaged:
+        return False
+    return head is not None and head.part is not None
+
+
 def _distance_of(path: Path) -> int:
     """The distance of the search that a journal is of."""
-    journal = Journal(path)
-    next(journal.advance(), None)
-    return journal.head.within if journal.head else 0
+    head = _head_of(path)
+    return head.within if head else 0
 
 
 def find_program() -> str:

@@ -4,6 +4,7 @@ import hashlib
 import itertools
 import os
 import struct
+import subprocess
 import tempfile
 import unittest
 from pathlib import Path
@@ -16,6 +17,13 @@ BUILT = TOP / "crates/solver_cli/out/solver_cli"
 PROGRAM = os.environ.get("HAMMOCKDOVE") or (str(BUILT) if os.access(BUILT, os.X_OK) else None)
 
 needs_program = unittest.skipUnless(PROGRAM, "no program is built: rt ci builds it, or HAMMOCKDOVE names it")
+
+def can_split():
+    """Whether the program has the words of parts of a search."""
+    with tempfile.TemporaryDirectory() as room:
+        words = [PROGRAM, "split", "none", "--part", "0/1"]
+        return PROGRAM is not None and subprocess.run(words, cwd=room, capture_output=True, check=False).stdout != b"words usage\n"
+
 
 TEXT = b"3 10\n60 5\n50 4\n70 6\n"
 NO_TICKET = 2**64 - 1
@@ -43,9 +51,14 @@ class ProgramCase(RoomCase):
         self.addCleanup(setattr, tempfile, "tempdir", was)
 
 
-def head(version=1, number=1, within=0, text=TEXT):
+DIGEST = bytes(range(32))
+
+
+def head(version=1, number=1, within=0, text=TEXT, part=(1, 3, DIGEST)):
+    """In version 3 of the part (number, of how many, digest)."""
     distance = struct.pack(">q", within) if version > 1 else b""
-    return 1, struct.pack(">IB", version, number) + distance + struct.pack(">I", len(text)) + text
+    mark = struct.pack(">II", *part[:2]) + part[2] if version > 2 else b""
+    return 1, struct.pack(">IB", version, number) + distance + mark + struct.pack(">I", len(text)) + text
 
 
 def decisions(*found):
@@ -99,6 +112,15 @@ def snapshot_each():
         *(more[0], snapshot((110, [1, 1, 0]), 3, (2, 120, [0]))),
         *(more[1], more[2], snapshot((120, [0, 1, 1]), 3)),
     ]
+
+
+def part_of_search(index=0):
+    """Part 0 or 1 of two of the same search, stopped after its first subproblem: where part 0 begins, and where part 1 ends."""
+    begun = bytes_of(small_search(2)[:3])
+    part = (index, 2, begun[-33:-1])
+    if index == 0:
+        return [head(3, part=part), snapshot((110, [1, 1, 0]), 3, (1, 121, [1]))]
+    return [head(3, part=part), snapshot((110, [1, 1, 0]), 3, (2, 120, [0])), improve(120, 0, 1, 1), finish(2)]
 
 
 def best_of(instance, choices):

@@ -6,13 +6,20 @@ from hammockdove import (
     InstanceRefused,
     JournalRefused,
     Outcome,
+    Part,
+    PartOutcome,
     ProgramFailed,
+    ReportRefused,
+    ReportsRefused,
     Stop,
     TableRefused,
     UnknownProblem,
     WordsRefused,
 )
-from hammockdove.answers import Unreadable, error_of, result_of, verdict_of
+from hammockdove.answers import Unreadable, error_of, is_of_part, part_result_of, result_of, verdict_of
+
+DIGEST = "53383328f67d28d5f346696950962e4808335eceb5008761d20db91b54962270"
+MARK = f"part 1/3\njournal {DIGEST}\n".encode()
 
 
 class AnswerTests(unittest.TestCase):
@@ -46,6 +53,31 @@ class AnswerTests(unittest.TestCase):
         self.assertTrue(result.lacks_cover)
         self.assertEqual(result.value, 4)
 
+    def test_settled(self):
+        result = part_result_of(b"settled\n" + MARK + b"value 64\nassignment 0 1 1\ntaken 4\nfinished 3\n", 0)
+        self.assertEqual((result.outcome, result.part), (PartOutcome.SETTLED, Part(1, 3, DIGEST)))
+        self.assertEqual((result.value, result.assignment, result.bound, result.taken, result.finished), (64, (0, 1, 1), 64, 4, 3))
+        self.assertEqual((result.is_settled, result.proves), (True, "No solution of the part is worth more than 64."))
+        self.assertEqual(str(result), "part 1/3 settled: value 64, bound 64")
+        result = part_result_of(b"settled within 5\n" + MARK + b"value 64\nassignment 0 1 1\n", 0)
+        self.assertEqual((result.within, result.bound, result.taken), (5, 69, None))
+        result = part_result_of(b"settled\n" + MARK + b"value none\n", 0)
+        self.assertEqual((result.value, result.assignment, result.bound, result.proves), (None, None, None, "The part has no feasible solution."))
+
+    def test_stopped_part(self):
+        result = part_result_of(b"stopped budget\n" + MARK + b"value 64\nassignment 0 1 1\nbound 71\n", 2)
+        self.assertEqual((result.outcome, result.stop, result.value, result.bound, result.is_settled), (PartOutcome.STOPPED, Stop.BUDGET, 64, 71, False))
+        result = part_result_of(b"stopped memory\n" + MARK + b"value none\nbound 71\n", 2)
+        self.assertEqual((result.value, result.assignment, str(result)), (None, None, "part 1/3 stopped (memory): value None, bound 71"))
+
+    def test_the_two_kinds_of_reports(self):
+        for text, status in ((b"settled\n" + MARK + b"value none\n", 0), (b"stopped budget\n" + MARK + b"value none\nbound 71\n", 2)):
+            self.assertTrue(is_of_part(text))
+            self.assertRaises(Unreadable, result_of, text, status)
+        for text, status in ((b"proved\nvalue 0\nassignment\n", 0), (b"stopped budget\nvalue none\nbound 71\n", 2), (b"infeasible\n", 1)):
+            self.assertFalse(is_of_part(text))
+            self.assertRaises(Unreadable, part_result_of, text, status)
+
     def test_verdicts(self):
         self.assertTrue(verdict_of(b"accepted\n", 0))
         verdict = verdict_of(b"refused arc 0 0 1\n", 9)
@@ -57,7 +89,11 @@ class AnswerTests(unittest.TestCase):
             (b"table json\n", 3, TableRefused),
             (b"table law 5 0 0 1\n", 3, TableRefused),
             (b"cover word 1 1\n", 3, CoverRefused),
+            (b"report word 1 1\n", 3, ReportRefused),
+            (b"reports order 2\n", 3, ReportsRefused),
+            (b"reports value 0\n", 9, ReportsRefused),
             (b"input too-long\n", 3, InputTooLong),
+            (b"part too-long\n", 3, InputTooLong),
             (b"words model\n", 4, UnknownProblem),
             (b"words number width\n", 4, WordsRefused),
             (b"words usage\n", 4, WordsRefused),
@@ -79,7 +115,12 @@ class AnswerTests(unittest.TestCase):
         self.assertEqual((fault.fault, fault.line, fault.column), ("not-number", 2, 4))
         self.assertEqual(str(fault), "instance refused, not-number at line 2, column 4: '60 5kg'")
         self.assertEqual(str(error_of(b"journal damaged 67\n", 5)), "journal refused, damaged at byte 67")
-        self.assertEqual(error_of(b"journal version 3\n", 5).number, 3)
+        self.assertEqual(error_of(b"journal version 4\n", 5).number, 4)
+        fault = error_of(b"report end-of-text 3 1\n", 3)
+        self.assertEqual((fault.fault, fault.line, fault.column), ("end-of-text", 3, 1))
+        for cause, status in (("order", 3), ("journal", 3), ("distance", 3), ("value", 9)):
+            fault = error_of(f"reports {cause} 2\n".encode(), status)
+            self.assertEqual((fault.cause, fault.index, fault.status), (cause, 2, status))
 
 
 if __name__ == "__main__":

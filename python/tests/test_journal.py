@@ -1,9 +1,9 @@
 import unittest
 
-from support import RoomCase, bytes_of, finish, head, improve, small_search, snapshot, snapshot_each
+from support import DIGEST, RoomCase, bytes_of, finish, head, improve, part_of_search, small_search, snapshot, snapshot_each
 
 from hammockdove import JournalDamaged, NotBegun
-from hammockdove.journal import Finish, Head, Improve, Journal, Snapshot, read
+from hammockdove.journal import Finish, Head, Improve, Journal, Part, Snapshot, read
 from hammockdove.progress import Tracker
 from hammockdove.show import contents_of, lines_of
 
@@ -37,6 +37,8 @@ class JournalTests(JournalCase):
 
     def test_first_bytes(self):
         self.assertTrue(bytes_of([head(1)]).startswith(bytes.fromhex("01 01 00 00 00 1d 00 00 00 01 01 00 00 00 14")))
+        part = "01 01 00 00 00 4d 00 00 00 03 01 00 00 00 00 00 00 00 00 00 00 00 01 00 00 00 03" + DIGEST.hex() + "00 00 00 14"
+        self.assertTrue(bytes_of([head(3)]).startswith(bytes.fromhex(part)))
         self.assertTrue(bytes_of([head(2)]).startswith(bytes.fromhex("01 01 00 00 00 25 00 00 00 02 01 00 00 00 00 00 00 00 00 00 00 00 14")))
 
     def test_snapshot(self):
@@ -47,6 +49,22 @@ class JournalTests(JournalCase):
         self.assertEqual(found.within, 7)
         self.assertEqual(entries[0].record, Snapshot(Improve(110, (1, 1, 0)), 3, ((1, 121, (1,)), (2, 120, (0,)))))
         self.assertEqual(self.refused(bytes_of([head(1), record])), ("malformed", 67))
+
+    def test_part(self):
+        self.path.write_bytes(bytes_of([head(3, within=7), snapshot(None, 3, (2, 120, [0]))]))
+        found, entries = read(self.path)
+        self.assertEqual(found, Head(3, "knapsack", 7, b"3 10\n60 5\n50 4\n70 6\n", Part(1, 3, DIGEST.hex())))
+        self.assertEqual((str(found.part), [it.offset for it in entries]), ("1/3", [115]))
+        self.assertEqual(entries[0].record, Snapshot(None, 3, ((2, 120, (0,)),)))
+
+    def test_digest(self):
+        self.path.write_bytes(bytes_of(small_search(2)[:3]))
+        journal = Journal(self.path)
+        self.assertEqual(journal.digest, "00" * 32)
+        list(journal.advance())
+        self.assertEqual(journal.digest, self.path.read_bytes()[-33:-1].hex())
+        self.path.write_bytes(bytes_of(part_of_search(1)))
+        self.assertEqual(read(self.path)[0].part, Part(1, 2, journal.digest))
 
     def test_not_begun(self):
         for data in (b"", b"\0", b"\1", b"\0rest", b"\3"):
@@ -83,7 +101,9 @@ class JournalTests(JournalCase):
 
     def test_fields_that_are_none(self):
         for name, records, wanted in (
-            ("version", [head(3)], ("version", 0)),
+            ("version", [head(4)], ("version", 0)),
+            ("part", [head(3, part=(3, 3, DIGEST))], ("malformed", 0)),
+            ("digest of a part", [head(3, part=(0, 3, DIGEST[:4]), text=b"")], ("malformed", 0)),
             ("problem", [head(1, number=9)], ("malformed", 0)),
             ("distance", [head(2, within=-1)], ("malformed", 0)),
             ("second head", [head(1), head(1)], ("malformed", 67)),
@@ -122,6 +142,13 @@ class ProgressTests(JournalCase):
         self.assertEqual([it.open for it in found], [1, 1, 1, 1, 0])
         self.assertEqual(found[-1].gap, 10)
 
+    def test_part(self):
+        found = self.after_each(part_of_search(1))
+        self.assertEqual([it.open for it in found], [1, 1, 0, 0])
+        self.assertEqual([it.bound for it in found], [None, 120, 120, 120])
+        # Where nothing was dealt to a part, there is nothing to do in it.
+        self.assertEqual([it.is_done for it in self.after_each([head(3), snapshot((110, [1, 1, 0]), 3)])], [False, True])
+
     def test_replaced(self):
         found = self.after_each([head(), finish(0, (None, 50, [1]), (None, 40, [0])), finish(1, (2, 45, [1, 0]))])
         self.assertEqual([(it.open, it.bound) for it in found], [(1, None), (2, 50), (1, 45)])
@@ -153,6 +180,11 @@ class ContentsTests(JournalCase):
                         f"end {end}",
                     ],
                 )
+
+    def test_part(self):
+        said = self.said(bytes_of(part_of_search(0)))
+        self.assertEqual(said[:5], ["version 3", "problem knapsack", "within 0", f"part 0/2 of journal {bytes_of(small_search(2)[:3])[-33:-1].hex()}", "instance 20 bytes"])
+        self.assertEqual(said[-5:], ["open 1", "best 110", "bound 121", "assignment 1 1 0", "end 214"])
 
     def test_snapshot_after_each_finish(self):
         data = bytes_of(snapshot_each())

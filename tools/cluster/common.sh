@@ -1,5 +1,9 @@
-# What the tests of the engines share: a tour in eight parts, whose answer on one machine is known. Source it with TOOLS and ROOM set.
+# What the tests of the engines share: a tour in eight parts and the frontier of a cut in sixteen, whose answers on one machine are known.
+# Source it with TOOLS and ROOM set. VERTICES and WIDTH make another cut, or another search of it.
 PARTS=8
+CUT_PARTS=16
+VERTICES=${VERTICES:-50}
+WIDTH=${WIDTH:-100}
 SCRIPTS=$(readlink -f "$TOOLS/../../examples/cluster")
 built=$(readlink -m "$TOOLS/../../crates/solver_cli/out/solver_cli")
 PROGRAM=${HAMMOCKDOVE:-$built}
@@ -29,11 +33,21 @@ until_true() {
     done
 }
 
-# A program that takes some seconds for a part, so that there is time to disturb it; its first word is a file with the number of seconds.
+# A program that takes some seconds for a part, so that there is time to disturb it; the file `seconds` has their number. Each part that begins
+# gets a line in the file `begun`: the number of its process, its index, and the bytes of its journal. The part of a journal finishes some
+# subproblems before it waits.
 make_slow() {
     cat >"$ROOM/slow" <<END
 #!/bin/bash
-case " \$* " in *" --part "*) echo "\$\$ \$*" >>"$ROOM/begun"; sleep "\$(cat "$ROOM/seconds")" ;; esac
+words="\$*"
+case "\$words" in
+    solve*" --part "*) part=\${words#*--part } part=\${part%%/*} bytes=0 ;;
+    resume*/part-*) part=\${2##*/part-} part=\$((10#\${part%%-*})) bytes=\$(stat -c %s "\$2") ;;
+    *) exec "$PROGRAM" "\$@" ;;
+esac
+echo "\$\$ \$part \$bytes" >>"$ROOM/begun"
+[ "\$bytes" = 0 ] || "$PROGRAM" resume "\$2" --budget 3 --width $WIDTH >"$ROOM/part-\$part.first"
+sleep "\$(cat "$ROOM/seconds")"
 exec "$PROGRAM" "\$@"
 END
     chmod 755 "$ROOM/slow"
@@ -46,13 +60,37 @@ END
 "$PROGRAM" generate tsptw 12 3 >"$ROOM/tour.txt" || exit 1
 wanted=$("$PROGRAM" solve tsptw <"$ROOM/tour.txt" | head -n 2)
 
+# Has the journal of a stopped search of a cut, with its heaviest vertices first and an open subproblem for each part, and has the answer of
+# one machine as the wanted one. It fails where the program does not split journals.
+stop_cut() {
+    [ "$("$PROGRAM" split "$ROOM/none" --part 0/1)" != "words usage" ] || { echo "skipped: the parts of a journal, since the program has no word split"; return 1; }
+    "$PROGRAM" generate maxcut "$VERTICES" 1 >"$ROOM/drawn.txt" || exit 1
+    "$TOOLS/../reorder.py" maxcut "$ROOM/drawn.txt" >"$ROOM/cut.txt" || exit 1
+    wanted=$("$PROGRAM" solve maxcut --width "$WIDTH" <"$ROOM/cut.txt" | head -n 2)
+    local budget=1
+    while :; do
+        rm -f "$ROOM/cut.journal"
+        "$PROGRAM" solve maxcut --width "$WIDTH" --budget $budget --journal "$ROOM/cut.journal" <"$ROOM/cut.txt" >"$ROOM/cut.stopped"
+        grep -q '^stopped' "$ROOM/cut.stopped" || { echo "the cut ends before it has $CUT_PARTS open subproblems" >&2; exit 1; }
+        # Of part 15 the Snapshot lists a subproblem where there are sixteen.
+        "$PROGRAM" split "$ROOM/cut.journal" --part $((CUT_PARTS - 1))/$CUT_PARTS >"$ROOM/last.journal"
+        "$PROGRAM" resume "$ROOM/last.journal" --budget 0 >"$ROOM/last.stopped"
+        ! grep -q '^stopped' "$ROOM/last.stopped" || return 0
+        budget=$((budget * 2))
+    done
+}
+
 # Whether the joined answer in a folder is that of one machine, and is accepted.
 is_answer() { [ "$(head -n 2 "$1/joined.txt" 2>/dev/null)" = "$wanted" ]; }
 is_accepted() { [ "$("$PROGRAM" check <"$1/joined.txt")" = accepted ]; }
 
-# How many parts have begun so far, and the N-th of them: the number of its process, and its index.
+# How many parts have begun so far, the N-th of them (the number of its process, and its index), how often a part has begun, and whether its
+# journal had grown when it began again.
 parts_begun() { [ "$(wc -l <"$ROOM/begun")" -ge "$1" ]; }
-begun_part() { sed -n "$1"'s|^\([0-9]*\) .*--part \([0-9]*\)/.*|\1 \2|p' "$ROOM/begun"; }
+begun_part() { sed -n "$1"'s|^\([0-9]*\) \([0-9]*\) .*|\1 \2|p' "$ROOM/begun"; }
+tries() { grep -c "^[0-9]* $1 " "$ROOM/begun"; }
+goes_on() { awk -v part="$1" '$2 == part { if (!first) first = $3; last = $3 } END { exit !(first < last) }' "$ROOM/begun"; }
+has_finished() { [ -s "$ROOM/part-$1.first" ]; }
 
 # Ends the daemons of a Slurm in the room; its files are kept where a claim failed.
 clean() {

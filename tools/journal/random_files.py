@@ -34,10 +34,11 @@ def listed(draw, numbers):
 def body(draw, kind):
     if kind == 1:
         text = draw.choice([b"", b"0 5\n", b"x" * 20])
-        version = draw.choice([1] * 15 + [2] * 20 + [0, 3])
-        within = struct.pack(">q", draw.choice([0] * 20 + [1, 2**50, 2**50 + 1, -1])) if version == 2 else b""
+        version = draw.choice([1] * 15 + [2] * 20 + [3] * 15 + [0, 4])
+        within = struct.pack(">q", draw.choice([0] * 20 + [1, 2**50, 2**50 + 1, -1])) if version in (2, 3) else b""
+        part = struct.pack(">II", draw.choice([0, 0, 1, 2]), draw.choice([1, 2, 3, 2**32 - 1])) + bytes(32) if version == 3 else b""
         problem = draw.choice([1, 2, 3, 4, 5, 6] * 6 + [0, 7, 255])
-        return struct.pack(">IB", version, problem) + within + struct.pack(">I", len(text)) + text
+        return struct.pack(">IB", version, problem) + within + part + struct.pack(">I", len(text)) + text
     if kind == 2:
         return struct.pack(">q", draw.choice([0, -1, 110, 2**63 - 1])) + decisions(draw)
     if kind == 3:

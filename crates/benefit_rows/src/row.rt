@@ -145,7 +145,9 @@ pub fn write_zeros(out: &mut [i64], done: usize)
     }
 }
 
-/// Writes the sums of two rows of the same length, and answers their rank. It needs ranks of at most `2^60`.
+/// Writes the sums of two rows of the same length, and answers their rank. It needs ranks of at most `2^60`. It is a call of its own,
+/// so that the loop over a layer keeps its numbers at hand.
+#[inline(never)]
 pub fn write_sums(out: &mut [i64], row: &[i64], added: &[i64]) -> i64
     requires cells { length out.old ≡ length row.now }
     requires lengths { length row.now ≡ length added.now }

@@ -1,9 +1,10 @@
 //! The variables and pairs of an instance, with what their clauses give.
 
-ghost use Rattle.std.specs.Prelude.{◌≡◌, ◌^◌, pos, ◌≤ℤ◌, map, IfOk, IsTrue};
+ghost use Rattle.std.specs.Prelude.{◌≡◌, ◌^◌, pos, ◌≤ℤ◌, map, IfOk};
+ghost use Rattle.dp_model.specs.Lists.{Each};
 ghost use Rattle.pair_rows.specs.Shown.{instance_of, instance_in as rows_shown};
-ghost use Rattle.max_two_sat.specs.Instance.{pair_total, pairs_total, unit_total, units_total};
-ghost use Rattle.max_two_sat.specs.Limits.{IsWithinLimits, PairIsPositive, UnitIsPositive, pairs_are_positive, units_are_positive};
+ghost use Rattle.max_two_sat.specs.Instance.{pair_total, unit_total};
+ghost use Rattle.max_two_sat.specs.Limits.{IsWithinLimits, PairIsPositive, UnitIsPositive};
 ghost use Rattle.max_two_sat.specs.Program.{pair_values, rows_in, unit_values};
 ghost use Rattle.max_two_sat.specs.Shown.{instance_in};
 
@@ -31,8 +32,8 @@ fn listed(
     requires { IsWithinLimits (record { tautologies = tautologies; units = units.now; pairs = pairs.now }) }
     ensures { IfOk result (λ p. instance_of p ≡ rows_in (record { tautologies = tautologies; units = units.now; pairs = pairs.now })) }
 {
-    let units = values_of_units(alloc, units)?;
-    let pairs = values_of_pairs(alloc, pairs)?;
+    let units = values_of(alloc, units)?;
+    let pairs = values_of(alloc, pairs)?;
     Ok(PairInstance {
         constant: tautologies,
         first: 2,
@@ -41,56 +42,65 @@ fn listed(
     })
 }
 
-/// What the clauses with one literal give, by variable.
-fn values_of_units(alloc: Global, units: &[UnitWeights]) -> Result<Vec<UnitValues>, AllocError>
-    requires positive { IsTrue (units_are_positive units.now) }
-    requires weight { units_total units.now ≤ℤ pos (2 ^ 48) }
-    ensures { IfOk result (λ v. v.items ≡ map unit_values units.now) }
+/// The weights of the clauses on one variable, or on two.
+trait ClauseWeights: Copy {
+    type Values: Drop;
+
+    /// That no weight is negative, and all of them together are at most 2^48.
+    ghost fits: { Self → Type 0 };
+
+    /// What each value of the variables gives, and what none of them exceeds.
+    ghost given: { Self → Self.Values };
+
+    /// What the clauses give, by the values of their variables.
+    fn values(self) -> Self::Values
+        requires { fits self }
+        ensures { result ≡ given self };
+}
+
+impl ClauseWeights for UnitWeights {
+    type Values = UnitValues;
+
+    ghost fits = { λ u. UnitIsPositive u × (unit_total u ≤ℤ pos (2 ^ 48)) };
+
+    ghost given = { unit_values };
+
+    fn values(self) -> UnitValues {
+        UnitValues {
+            if_no: value_of_unit(self, 0),
+            if_yes: value_of_unit(self, 1),
+            most: self.positive + self.negative,
+        }
+    }
+}
+
+impl ClauseWeights for PairWeights {
+    type Values = PairValues;
+
+    ghost fits = { λ p. PairIsPositive p × (pair_total p ≤ℤ pos (2 ^ 48)) };
+
+    ghost given = { pair_values };
+
+    fn values(self) -> PairValues {
+        PairValues {
+            no_no: value_of_pair(self, 0, 0),
+            no_yes: value_of_pair(self, 0, 1),
+            yes_no: value_of_pair(self, 1, 0),
+            yes_yes: value_of_pair(self, 1, 1),
+            most: pair_sum(self),
+        }
+    }
+}
+
+/// What the clauses of each entry give.
+fn values_of<W: ClauseWeights>(alloc: Global, entries: &[W]) -> Result<Vec<W::Values>, AllocError>
+    requires { Each W.fits entries.now }
+    ensures { IfOk result (λ v. v.items ≡ map W.given entries.now) }
 {
-    let mut values = Vec::with_capacity(alloc, units.len())?;
-    for i in 0..units.len() {
-        values.push(values_of_unit(units[i]))?;
+    let mut values = Vec::with_capacity(alloc, entries.len())?;
+    for i in 0..entries.len() {
+        let entry = entries[i];
+        values.push(entry.values())?;
     }
     Ok(values)
-}
-
-/// What the clauses with one literal on a variable give.
-fn values_of_unit(unit: UnitWeights) -> UnitValues
-    requires positive { UnitIsPositive unit }
-    requires weight { unit_total unit ≤ℤ pos (2 ^ 48) }
-    ensures { result ≡ unit_values unit }
-{
-    UnitValues {
-        if_no: value_of_unit(unit, 0),
-        if_yes: value_of_unit(unit, 1),
-        most: unit.positive + unit.negative,
-    }
-}
-
-/// What the clauses on two variables give, by pair.
-fn values_of_pairs(alloc: Global, pairs: &[PairWeights]) -> Result<Vec<PairValues>, AllocError>
-    requires positive { IsTrue (pairs_are_positive pairs.now) }
-    requires weight { pairs_total pairs.now ≤ℤ pos (2 ^ 48) }
-    ensures { IfOk result (λ v. v.items ≡ map pair_values pairs.now) }
-{
-    let mut values = Vec::with_capacity(alloc, pairs.len())?;
-    for i in 0..pairs.len() {
-        values.push(values_of_pair(pairs[i]))?;
-    }
-    Ok(values)
-}
-
-/// What the clauses on two variables give, by the values of both.
-fn values_of_pair(pair: PairWeights) -> PairValues
-    requires positive { PairIsPositive pair }
-    requires weight { pair_total pair ≤ℤ pos (2 ^ 48) }
-    ensures { result ≡ pair_values pair }
-{
-    PairValues {
-        no_no: value_of_pair(pair, 0, 0),
-        no_yes: value_of_pair(pair, 0, 1),
-        yes_no: value_of_pair(pair, 1, 0),
-        yes_yes: value_of_pair(pair, 1, 1),
-        most: pair_sum(pair),
-    }
 }

@@ -4,11 +4,12 @@ ghost use Rattle.std.specs.Prelude.{ℕ, ◌<◌, ℤ, List, Option, IsPermutati
 ghost use Rattle.dp_model.specs.Dp.{Dp};
 ghost use Rattle.dp_model.specs.Laws.{IsLawful};
 ghost use Rattle.board_laws.specs.Board.{BoardState};
-ghost use Rattle.board_laws.specs.GoodBoard.{IsBoard, IsGood};
+ghost use Rattle.board_laws.specs.GoodBoard.{IsBoard, IsGood, IsGoodFrom};
+ghost use Rattle.frontier_parts.specs.Searches.{AreSettledBy};
 ghost use Rattle.journal_bytes.specs.Bodies.{IncumbentView, ListedView, Snapshot};
 ghost use Rattle.journal_replay.specs.Following.{snapshot_record};
 ghost use Rattle.journal_replay.specs.Parts.{IsPartRecorded};
-ghost use Rattle.part_records.specs.Parts.{PartsJoin, PartsSettle, dealt_record, listed_by_parts};
+ghost use Rattle.part_records.specs.Parts.{IsPartSettledWithin, PartsJoin, PartsSettle, dealt_record, joined_value, listed_by_parts};
 
 /// The parts of a snapshot list each of its subproblems once, and nothing else.
 pub fn parts_are_all()
@@ -30,4 +31,11 @@ pub fn parts_settle()
 /// distance no solution is further above it.
 pub fn parts_join()
     ensures { (dp : Dp) (b : BoardState) (of : ℕ) (found : ℕ → Option ℤ) → IsBoard dp b → IsGood dp b → 0 < of → PartsJoin dp b of found }
+{}
+
+/// A part that is dealt out again: where each of its parts is settled with a value, the greatest of the incumbent and of these values settles the
+/// prefixes with which it began.
+pub fn parts_join_from()
+    ensures { (dp : Dp) (starts : List (List ℕ)) (b : BoardState) (of : ℕ) (found : ℕ → Option ℤ) → IsBoard dp b → IsGoodFrom dp starts b → 0 < of
+        → ((index : ℕ) → index < of → IsPartSettledWithin dp b (dealt_record of index (snapshot_record b)) (found index)) → AreSettledBy dp starts b.settings.within (joined_value b of found) }
 {}

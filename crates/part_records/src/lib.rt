@@ -8,7 +8,8 @@
 //! The functions without parameters are laws. The parts of a snapshot list each of its subproblems once (`parts_are_all`). On a good board
 //! the record of a part is sound from its prefixes (`parts_are_sound`), and a search that goes on from there settles it
 //! (`parts_settle`). Where each part is settled with a value, the greatest of the incumbent and of these values is the best one, or no
-//! solution is further above it than the distance of the search (`parts_join`).
+//! solution is further above it than the distance of the search (`parts_join`). A part can be dealt out again: then the value settles the prefixes
+//! with which that part began (`parts_join_from`).
 //!
 //! ```
 //! // The second of four parts.
@@ -22,4 +23,4 @@ mod laws;
 mod tests;
 
 pub use dealing::part_of;
-pub use laws::{parts_are_all, parts_are_sound, parts_join, parts_settle};
+pub use laws::{parts_are_all, parts_are_sound, parts_join, parts_join_from, parts_settle};

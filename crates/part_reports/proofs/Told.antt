@@ -9,12 +9,13 @@ use Rattle.dp_model.specs.Numbers.{AtMost}
 use Rattle.dp_model.specs.Prefixes.{IsCompletion, IsSolution, value_of}
 use Rattle.dp_model.proofs.Members.{Each-then}
 use Rattle.board_laws.specs.Board.{BoardState, incumbent_value, reach_of}
-use Rattle.board_laws.specs.GoodBoard.{IsBoard, IsGood}
+use Rattle.board_laws.specs.GoodBoard.{IsBoard, IsGood, IsGoodFrom}
+use Rattle.frontier_parts.specs.Searches.{AreSettledBy}
 use Rattle.frontier_parts.specs.Settled.{IsShown, IsSettled, IsSettledWithin, joined}
 use Rattle.journal_bytes.specs.Bodies.{IncumbentView}
 use Rattle.journal_replay.specs.Following.{snapshot_record}
-use Rattle.part_records.specs.Parts.{IsPartSettled, IsPartSettledWithin, dealt_record}
-use Rattle.part_records.proofs.Joining.{parts-joined}
+use Rattle.part_records.specs.Parts.{IsPartSettled, IsPartSettledWithin, dealt_record, joined_value}
+use Rattle.part_records.proofs.Joining.{parts-joined, parts-joined-from}
 use Rattle.part_reports.specs.Joining.{IsHeld, IsHeldWithin, ReportsJoin, part_starts, told_of}
 use Rattle.part_reports.specs.Reports.{ReportView, AreReports, IsTested, value_told, values_told}
 
@@ -49,27 +50,40 @@ told-shown dp digest of start [] are i less = absurd (omega arith)
 told-shown dp digest of start (r ∷ rs) are zero less = tested-shown dp r.best r refl are.0.tested
 told-shown dp digest of start (r ∷ rs) are (suc i) less = told-shown dp digest of (start + 1) rs are.1 i (omega arith)
 
-pub reports-join : (dp : Dp) (b : BoardState) (digest : List ℕ) (rs : List ReportView) → IsBoard dp b → IsGood dp b → 0 < length rs → AreReports dp digest (length rs) 0 rs → ReportsJoin dp b rs
-reports-join dp b digest rs g h some are =
-    let of = length rs in
-    let inc = incumbent_value b in
-    let within = b.settings.within in
-    let found = told_of rs in
-    let join = parts-joined dp b of found g h some in
-    let same : joined inc (map found (below of)) ≡ joined inc (values_told rs) = ap (joined inc) (told-all rs) in
-    record {
-      best = λ zero held. sym same ∙ join.best zero (λ i less.
-          let shown = told-shown dp digest of 0 rs are i less in
-          record {
-            shown = shown;
-            each = Each-then (λ p. (x : List ℕ) → IsCompletion dp p x → AtMost (value_of dp x) (found i) ⊎ AtMost (value_of dp x) inc) (λ p. IsSettled dp inc (record { prefix = p; best = found i }))
-                (part_starts b of i) (λ p each. record { shown = shown; held = each }) (held i less);
-          });
-      within = λ held. subst (λ (o : Option ℤ). (x : List ℕ) → IsSolution dp x → AtMost (value_of dp x) (reach_of within o)) same (join.within (λ i less.
-          let shown = told-shown dp digest of 0 rs are i less in
-          record {
-            shown = shown;
-            each = Each-then (λ p. (x : List ℕ) → IsCompletion dp p x → AtMost (value_of dp x) (reach_of within (found i)) ⊎ AtMost (value_of dp x) (reach_of within inc)) (λ p. IsSettledWithin dp within inc (record { prefix = p; best = found i }))
-                (part_starts b of i) (λ p each. record { shown = shown; held = each }) (held i less);
-          }));
-    }
+module _ (dp : Dp) (b : BoardState) (digest : List ℕ) (rs : List ReportView) (are : AreReports dp digest (length rs) 0 rs) where
+  -- a part that is held is settled with the value that is told of it
+  held-settled : (i : ℕ) → i < length rs → IsHeld dp b rs i → IsPartSettled dp b (dealt_record (length rs) i (snapshot_record b)) (told_of rs i)
+  held-settled i less held =
+      let shown = told-shown dp digest (length rs) 0 rs are i less in
+      record {
+        shown = shown;
+        each = Each-then (λ p. (x : List ℕ) → IsCompletion dp p x → AtMost (value_of dp x) (told_of rs i) ⊎ AtMost (value_of dp x) (incumbent_value b))
+            (λ p. IsSettled dp (incumbent_value b) (record { prefix = p; best = told_of rs i })) (part_starts b (length rs) i) (λ p each. record { shown = shown; held = each }) held;
+      }
+
+  held-near : (i : ℕ) → i < length rs → IsHeldWithin dp b rs i → IsPartSettledWithin dp b (dealt_record (length rs) i (snapshot_record b)) (told_of rs i)
+  held-near i less held =
+      let shown = told-shown dp digest (length rs) 0 rs are i less in
+      let within = b.settings.within in
+      record {
+        shown = shown;
+        each = Each-then (λ p. (x : List ℕ) → IsCompletion dp p x → AtMost (value_of dp x) (reach_of within (told_of rs i)) ⊎ AtMost (value_of dp x) (reach_of within (incumbent_value b)))
+            (λ p. IsSettledWithin dp within (incumbent_value b) (record { prefix = p; best = told_of rs i })) (part_starts b (length rs) i) (λ p each. record { shown = shown; held = each }) held;
+      }
+
+  -- the joined value, part by part and report by report
+  same-joined : joined_value b (length rs) (told_of rs) ≡ joined (incumbent_value b) (values_told rs)
+  same-joined = ap (joined (incumbent_value b)) (told-all rs)
+
+  pub reports-join : IsBoard dp b → IsGood dp b → 0 < length rs → ReportsJoin dp b rs
+  reports-join g h some =
+      let join = parts-joined dp b (length rs) (told_of rs) g h some in
+      record {
+        best = λ zero held. sym same-joined ∙ join.best zero (λ i less. held-settled i less (held i less));
+        within = λ held. subst (λ (o : Option ℤ). (x : List ℕ) → IsSolution dp x → AtMost (value_of dp x) (reach_of b.settings.within o)) same-joined (join.within (λ i less. held-near i less (held i less)));
+      }
+
+  pub reports-join-from : (starts : List (List ℕ)) → IsBoard dp b → IsGoodFrom dp starts b → 0 < length rs
+      → ((i : ℕ) → i < length rs → IsHeldWithin dp b rs i) → AreSettledBy dp starts b.settings.within (joined (incumbent_value b) (values_told rs))
+  reports-join-from starts g h some held = subst (λ (o : Option ℤ). AreSettledBy dp starts b.settings.within o) same-joined
+      (parts-joined-from dp starts b (length rs) (told_of rs) g h some (λ i less. held-near i less (held i less)))

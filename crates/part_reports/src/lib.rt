@@ -5,8 +5,9 @@
 //! `best_of_reports` gives the solution that has the joined value. The
 //! crate stands on `part_records` for what the parts are, and on `frontier_parts` for the greatest value.
 //!
-//! The function without parameters is a law. Where reports are joined, and each tells what the search of its part has settled, the joined
-//! value is the best one, or no solution is further above it than the distance of the search (`reports_join`).
+//! The functions without parameters are laws. Where reports are joined, and each tells what the search of its part has settled, the joined
+//! value is the best one, or no solution is further above it than the distance of the search (`reports_join`). Where the search that was dealt out is
+//! itself of a part, the joined value settles the prefixes of that part (`reports_join_from`).
 //!
 //! ```
 //! // The greatest of the incumbent, 7, and of the values of all parts, with the first part that has it.
@@ -24,5 +25,5 @@ mod testing;
 pub use best::best_of_reports;
 pub use fault::ReportFault;
 pub use joining::join_reports;
-pub use laws::reports_join;
+pub use laws::{reports_join, reports_join_from};
 pub use report::PartReport;

@@ -2,7 +2,8 @@
 #SBATCH --job-name=hammockdove
 #SBATCH --requeue
 # One part of an array: parts.sbatch SCRIPTS K MODEL INSTANCE OUT [OPTION..]; submit calls it. A part that a machine's fault ended is put
-# back into the queue up to MOST times; one whose input, command or budget is at fault fails for good.
+# back into the queue up to MOST times; one whose input, command or budget is at fault fails for good. The part of a journal goes on from
+# its own.
 set -u
 MOST=3
 scripts=$1 index=$SLURM_ARRAY_TASK_ID out=$5

@@ -1,7 +1,0 @@
-use Rattle.std.proofs.Common.{◌≡◌, ◌++◌, drop, map}
-use Rattle.max_two_sat.specs.Program.{unit_values}
-use Rattle.max_two_sat.proofs.listing.values_of_units.Given as goal
-
--- the values so far and those of the entries that are left make all values
-abbrev pub invariant-loop-i : goal.invariant-loop-i
-invariant-loop-i l = l.values.items ++ map unit_values (drop l.i l.units) ≡ map unit_values l.units
