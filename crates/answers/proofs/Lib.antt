@@ -12,3 +12,6 @@ pub mod Heads
 pub mod Journaled
 pub mod Opened
 pub mod Splits
+pub mod Texts
+pub mod Distances
+pub mod ReportsJoined

@@ -36,7 +36,7 @@ use Rattle.answers.proofs.Conclusions.{over_distance}
 
 module _ (dp : Dp) (own : List ℕ → Option ℤ) (agrees : Agrees dp own) (starts : List (List ℕ)) where
   -- what holds of the solutions holds in the problem's own words
-  in_own_words : (most : Option ℤ) → HoldsFrom dp starts most → NoneExceedsFrom dp own starts most
+  pub in_own_words : (most : Option ℤ) → HoldsFrom dp starts most → NoneExceedsFrom dp own starts most
   in_own_words most h = record {
     holds = h;
     own_holds = λ x worth is begun.

@@ -11,7 +11,6 @@ use Rattle.problems.specs.Theories.{theory_of}
 use Rattle.solver_words.specs.Words.{JobView, solve, resume, split, check, join, join_reports, digest, generate, meaning, refusal_of}
 use Rattle.solver_report.specs.declared.answer.Answer.{Answer}
 use Rattle.solver_report.specs.declared.answer.Answer.TheVariants as answers
-use Rattle.solver_report.specs.declared.answer.ReportRefusal.TheVariants as refusals
 use Rattle.solver_report.specs.Report.{report, status_of}
 use Rattle.answers.specs.Answers.{DigestsText, Draws, SolvesPart, SolvesText}
 use Rattle.answers.specs.Checks.{IsChecked}
@@ -19,6 +18,7 @@ use Rattle.answers.specs.Covers.{cover_limit}
 use Rattle.answers.specs.Joins.{IsJoined}
 use Rattle.answers.specs.Journals.{Attaches, HasLeftBegun}
 use Rattle.answers.specs.Kept.{LeavesAfterResume, MayFollow, RepliesKept, Resumes, head_of}
+use Rattle.answers.specs.ReportsJoined.{JoinsReports, LeavesRead}
 use Rattle.answers.specs.Splits.{Splits}
 
 -- the source as the run found it and left it: the bytes that are left, where they are told, and how many calls have failed
@@ -99,7 +99,7 @@ module _ {D : Type 0} (on : Ghosts D) where
   LeavesOfSearch name within path r before now = (now ≡ before) ⊎ (Attaches on path before now × ((bytes : List ℕ) × WasRead text_limit r bytes
       × IsOkAnd ((theory_of name).spelled bytes) (λ numbers. HasLeftBegun on ((theory_of name).program numbers) (head_of (theory_of name) name within numbers) now)))
 
-  -- what a job may answer (reports of parts are not joined yet: they are refused at the first one); nothing is read for an instance that is drawn and for a journal, and the disk is as it was where no journal is kept; no search of
+  -- what a job may answer; nothing is read for an instance that is drawn and for a journal, and the disk is as it was where no journal is kept; no search of
   -- a part keeps one
   abbrev pub IsJobAnswer : JobView → Readings → D → D → Answer → Type 0
   IsJobAnswer (solve name search None None) r before now answer = IsInputAnswer text_limit (SolvesText (theory_of name) name search) r answer × (now ≡ before)
@@ -112,7 +112,7 @@ module _ {D : Type 0} (on : Ghosts D) where
   IsJobAnswer (split path part) r before now answer = IsUntouched r × Splits on part path before now answer
   IsJobAnswer check r before now answer = IsInputAnswer cover_limit IsChecked r answer × (now ≡ before)
   IsJobAnswer join r before now answer = IsInputAnswer cover_limit IsJoined r answer × (now ≡ before)
-  IsJobAnswer (join_reports path) r before now answer = IsUntouched r × (answer ≡ answers.ReportsRefused (refusals.Order 0)) × (now ≡ before)
+  IsJobAnswer (join_reports path) r before now answer = IsInputAnswer cover_limit (JoinsReports on path before now) r answer × LeavesRead on path before now
   IsJobAnswer (digest name) r before now answer = IsInputAnswer text_limit (DigestsText (theory_of name)) r answer × (now ≡ before)
   IsJobAnswer (generate name n seed solved) r before now answer = IsUntouched r × Draws (theory_of name) n seed solved answer × (now ≡ before)
 

@@ -15,5 +15,6 @@ pub mod Kept
 -- what is answered for a journal that is only read
 pub mod Opened
 pub mod Splits
+pub mod ReportsJoined
 -- how a run ends
 pub mod Ended

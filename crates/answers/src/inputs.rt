@@ -12,8 +12,8 @@ use solver_report::Answer;
 use std::alloc::Global;
 use streams::{ReadError, Source, read_all};
 
-/// The greatest number of bytes of a whole output with its cover, and of the outputs of all parts.
-const COVER_LIMIT: usize = 1 << 28;
+/// The greatest number of bytes of a whole output with its cover, of the outputs of all parts, and of their reports.
+pub(crate) const COVER_LIMIT: usize = 1 << 28;
 
 /// The answer to an input that is a whole output with its cover: the verdict, or why the input is refused.
 pub fn answer_cover<S: Source>(alloc: Global, input: &mut S) -> Answer

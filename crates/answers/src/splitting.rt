@@ -177,6 +177,7 @@ pub(crate) fn stopped_board<M: DpModel>(
 ) -> Result<Board<M>, JournalError>
     requires { IsDistance records.now.within }
     ensures accepted { OnOk result (AreAccepted (M.meaning (M.numbers (arc_value model))) records.now.records) }
+    ensures numbers { IfOk result (λ b. b.numbers ≡ M.numbers (arc_value model)) }
     ensures board { IfOk result (λ b. b.board ≡ stopped_board (M.meaning (M.numbers (arc_value model))) records.now.within records.now.records) }
     ensures refused { IfErr result (AreRefused (M.meaning (M.numbers (arc_value model))) records.now.first records.now.records) }
 {

@@ -99,7 +99,7 @@ module _ (dp : Dp) (starts : List (List ℕ)) (b : BoardState) (of : ℕ) (found
       most (λ a. a) itself_rising held covers
 
   -- or no further above it than the distance
-  near : AreSettledWithin → (x : List ℕ) → IsSolution dp x → BeginsWithOne starts x → AtMost (value_of dp x) (reach_of b.settings.within (joined_value b of found))
+  pub near : AreSettledWithin → (x : List ℕ) → IsSolution dp x → BeginsWithOne starts x → AtMost (value_of dp x) (reach_of b.settings.within (joined_value b of found))
   near settled =
       let inc = incumbent_value b in
       let within = b.settings.within in

@@ -10,12 +10,12 @@ use Rattle.dp_model.specs.Prefixes.{IsCompletion, IsSolution, value_of}
 use Rattle.dp_model.proofs.Members.{Each-then}
 use Rattle.board_laws.specs.Board.{BoardState, incumbent_value, reach_of}
 use Rattle.board_laws.specs.GoodBoard.{IsBoard, IsGood, IsGoodFrom}
-use Rattle.frontier_parts.specs.Searches.{AreSettledBy}
+use Rattle.frontier_parts.specs.Searches.{AreSettledBy, HoldsFrom}
 use Rattle.frontier_parts.specs.Settled.{IsShown, IsSettled, IsSettledWithin, joined}
 use Rattle.journal_bytes.specs.Bodies.{IncumbentView}
 use Rattle.journal_replay.specs.Following.{snapshot_record}
 use Rattle.part_records.specs.Parts.{IsPartSettled, IsPartSettledWithin, dealt_record, joined_value}
-use Rattle.part_records.proofs.Joining.{parts-joined, parts-joined-from}
+use Rattle.part_records.proofs.Joining.{near, parts-joined, parts-joined-from}
 use Rattle.part_reports.specs.Joining.{IsHeld, IsHeldWithin, ReportsJoin, part_starts, told_of}
 use Rattle.part_reports.specs.Reports.{ReportView, AreReports, IsTested, value_told, values_told}
 
@@ -87,3 +87,9 @@ module _ (dp : Dp) (b : BoardState) (digest : List ℕ) (rs : List ReportView) (
       → ((i : ℕ) → i < length rs → IsHeldWithin dp b rs i) → AreSettledBy dp starts b.settings.within (joined (incumbent_value b) (values_told rs))
   reports-join-from starts g h some held = subst (λ (o : Option ℤ). AreSettledBy dp starts b.settings.within o) same-joined
       (parts-joined-from dp starts b (length rs) (told_of rs) g h some (λ i less. held-near i less (held i less)))
+
+  -- no solution that begins with a start prefix is further above the joined value than the distance
+  pub reports-hold-from : (starts : List (List ℕ)) → IsBoard dp b → IsGoodFrom dp starts b → 0 < length rs
+      → ((i : ℕ) → i < length rs → IsHeldWithin dp b rs i) → HoldsFrom dp starts (reach_of b.settings.within (joined (incumbent_value b) (values_told rs)))
+  reports-hold-from starts g h some held = subst (λ (o : Option ℤ). HoldsFrom dp starts (reach_of b.settings.within o)) same-joined
+      (near dp starts b (length rs) (told_of rs) g h some (λ i less. held-near i less (held i less)))

@@ -13,30 +13,8 @@ use Rattle.answers.specs.Checks.{RefusesInstance}
 use Rattle.answers.specs.Covers.{IsCovered, IsCoveredIn}
 use Rattle.answers.specs.Parts.{part_own}
 use Rattle.parts.specs.Part.{part_program}
-use Rattle.answers.specs.Ended.{IsInputAnswer, Readings, RepliesTo, WasRead, text_limit}
-
--- what a text may be answered, which is never that the input was too long or could not be read
-whole : (For : List ℕ → Answer → Type 0) (r : Readings) (bytes : List ℕ) (answer : Answer) → (For bytes answers.ReadFault → ⊥) → (For bytes answers.TooLong → ⊥)
-    → WasRead text_limit r bytes → For bytes answer → IsInputAnswer text_limit For r answer
-whole For r bytes (answers.Searched outcome counts) sound short read h = record { bytes = bytes; read = read; replies = h }
-whole For r bytes (answers.Covered outcome counts text) sound short read h = record { bytes = bytes; read = read; replies = h }
-whole For r bytes (answers.Digest digest) sound short read h = record { bytes = bytes; read = read; replies = h }
-whole For r bytes (answers.Drawn text) sound short read h = record { bytes = bytes; read = read; replies = h }
-whole For r bytes (answers.Checked given) sound short read h = record { bytes = bytes; read = read; replies = h }
-whole For r bytes (answers.Refused e) sound short read h = record { bytes = bytes; read = read; replies = h }
-whole For r bytes (answers.CoverRefused e) sound short read h = record { bytes = bytes; read = read; replies = h }
-whole For r bytes (answers.PartsRefused e) sound short read h = record { bytes = bytes; read = read; replies = h }
-whole For r bytes (answers.PartFile file) sound short read h = record { bytes = bytes; read = read; replies = h }
-whole For r bytes (answers.PartSearched part told counted) sound short read h = record { bytes = bytes; read = read; replies = h }
-whole For r bytes (answers.ReportRefused e) sound short read h = record { bytes = bytes; read = read; replies = h }
-whole For r bytes (answers.ReportsRefused e) sound short read h = record { bytes = bytes; read = read; replies = h }
-whole For r bytes answers.PartTooLarge sound short read h = record { bytes = bytes; read = read; replies = h }
-whole For r bytes answers.TooLong sound short read h = absurd (short h)
-whole For r bytes answers.Width sound short read h = record { bytes = bytes; read = read; replies = h }
-whole For r bytes (answers.Words e) sound short read h = record { bytes = bytes; read = read; replies = h }
-whole For r bytes (answers.Journal e) sound short read h = record { bytes = bytes; read = read; replies = h }
-whole For r bytes answers.ReadFault sound short read h = absurd (sound h)
-whole For r bytes answers.OutOfMemory sound short read h = read.sound
+use Rattle.answers.specs.Ended.{IsInputAnswer, Readings, WasRead, text_limit}
+use Rattle.answers.proofs.Texts.{whole}
 
 module _ (t : Theory) where
   no_digest : (spelled : Result (List ℤ) InstanceRefusal) → MatchResult spelled (λ numbers. Digests (t.canonical numbers) answers.ReadFault) (λ e. RefusesInstance e answers.ReadFault) → ⊥
@@ -48,7 +26,7 @@ module _ (t : Theory) where
   no_long_digest (Err e) h = h
 
   pub whole_digest : (r : Readings) (bytes : List ℕ) (answer : Answer) → WasRead text_limit r bytes → DigestsText t bytes answer → IsInputAnswer text_limit (DigestsText t) r answer
-  whole_digest r bytes answer read h = whole (DigestsText t) r bytes answer (no_digest (t.spelled bytes)) (no_long_digest (t.spelled bytes)) read h
+  whole_digest r bytes answer read h = whole text_limit (DigestsText t) r bytes answer (no_digest (t.spelled bytes)) (no_long_digest (t.spelled bytes)) read h
 
   module _ (name : ModelName) (search : JobSettings) where
     no_search : (spelled : Result (List ℤ) InstanceRefusal) → MatchResult spelled (λ numbers. Solves (t.program numbers) (t.own_value numbers) search answers.ReadFault × IsCovered name (t.canonical numbers) answers.ReadFault) (λ e. RefusesInstance e answers.ReadFault) → ⊥
@@ -60,7 +38,7 @@ module _ (t : Theory) where
     no_long_search (Err e) h = h
 
     pub whole_search : (r : Readings) (bytes : List ℕ) (answer : Answer) → WasRead text_limit r bytes → SolvesText t name search bytes answer → IsInputAnswer text_limit (SolvesText t name search) r answer
-    whole_search r bytes answer read h = whole (SolvesText t name search) r bytes answer (no_search (t.spelled bytes)) (no_long_search (t.spelled bytes)) read h
+    whole_search r bytes answer read h = whole text_limit (SolvesText t name search) r bytes answer (no_search (t.spelled bytes)) (no_long_search (t.spelled bytes)) read h
 
     module _ (part : PartNumber) where
       abbrev SolvesHere : List ℤ → Answer → Type 0
@@ -76,4 +54,4 @@ module _ (t : Theory) where
       no_long_part (Err e) h = h
 
       pub whole_part : (r : Readings) (bytes : List ℕ) (answer : Answer) → WasRead text_limit r bytes → SolvesPart t name part search bytes answer → IsInputAnswer text_limit (SolvesPart t name part search) r answer
-      whole_part r bytes answer read h = whole (SolvesPart t name part search) r bytes answer (no_part (t.spelled bytes)) (no_long_part (t.spelled bytes)) read h
+      whole_part r bytes answer read h = whole text_limit (SolvesPart t name part search) r bytes answer (no_part (t.spelled bytes)) (no_long_part (t.spelled bytes)) read h

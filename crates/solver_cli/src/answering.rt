@@ -4,8 +4,10 @@ ghost use Rattle.problems.specs.Theories.{theory_of};
 ghost use Rattle.solver_words.specs.Possible.{IsPossible, MayDraw, MaySearch};
 ghost use Rattle.solver_words.specs.Words.{job_view};
 ghost use Rattle.answers.specs.Answers.{DigestsText, Draws, SolvesPart, SolvesText};
+ghost use Rattle.answers.specs.Covers.{cover_limit};
 ghost use Rattle.answers.specs.Ended.{IsInputAnswer, IsJobAnswer, IsRight, LeavesOfSearch, readings, text_limit};
 ghost use Rattle.answers.specs.Kept.{RepliesKept};
+ghost use Rattle.answers.specs.ReportsJoined.{JoinsReports, LeavesRead};
 ghost use Rattle.answers.specs.Splits.{Splits};
 
 use crate::drawing::draw;
@@ -14,12 +16,12 @@ use crate::parting::part_text;
 use crate::replying::solve_text;
 use crate::resuming::resume;
 use crate::runner::Runner;
-use answers::{answer_cover, answer_parts, digest_text, split_journal, unread};
+use answers::{answer_cover, answer_parts, answer_reports, digest_text, split_journal, unread};
 use disk::Disk;
 use problem_names::{ModelName, PartNumber};
 use problems::by_name;
 use search_workers::Gate;
-use solver_report::{Answer, ReportRefusal};
+use solver_report::Answer;
 use solver_words::{Job, JobSettings, read_words};
 use std::alloc::Global;
 use std::sync::Wait;
@@ -84,10 +86,7 @@ fn answer_job<S: Source, D: Disk + Send, G: Gate + Sync, R: Threads + Wait + Syn
         Job::Split { path, part } => split_named(run, path.as_str(), part, disk),
         Job::Check => (answer_cover(run.alloc, input), disk),
         Job::Join => (answer_parts(run.alloc, input), disk),
-        Job::JoinReports { .. } => {
-            let refusal = ReportRefusal::Order { index: 0 };
-            (Answer::ReportsRefused(refusal), disk)
-        }
+        Job::JoinReports { path } => join_named(run, path.as_str(), input, disk),
         Job::Digest { model } => (digest_input(run.alloc, model, input), disk),
         Job::Generate {
             model,
@@ -182,6 +181,20 @@ fn split_named<D: Disk, G: Gate + Sync, R: Threads + Wait + Sync>(
     ensures { Splits D.Disk part path.now disk result.1 result.0 }
 {
     let answer = split_journal(run.alloc, &mut disk, path, part);
+    (answer, disk)
+}
+
+/// The answer to an input that is the reports of all parts of the stopped search whose journal is in the named file.
+fn join_named<S: Source, D: Disk, G: Gate + Sync, R: Threads + Wait + Sync>(
+    run: &Runner<'_, G, R>,
+    path: &str,
+    input: &mut S,
+    mut disk: D,
+) -> (Answer, D)
+    ensures answer { IsInputAnswer cover_limit (JoinsReports D.Disk path.now disk result.1) (readings S.left S.faults input.old input.new) result.0 }
+    ensures left { LeavesRead D.Disk path.now disk result.1 }
+{
+    let answer = answer_reports(run.alloc, input, path, &mut disk);
     (answer, disk)
 }
 
