@@ -24,7 +24,7 @@ _NO_TICKET = 2**64 - 1
 _OPEN = b"\x01"
 _FRAME = struct.Struct(">BI")
 _DIGEST_BYTES = 32
-_PART_VERSION = 3
+_PART_VERSION = int.from_bytes(b"PART", "big")
 _FRAMING = 1 + _FRAME.size + _DIGEST_BYTES
 
 

@@ -97,7 +97,7 @@ head_from : (body after_version after_model after_within after_mark : List ℕ) 
 unfolding head_of
 head_from body after_version after_model after_within after_mark version m z part text first is second third fourth last = rw (first, is, second, third, fourth, last) refl
 
-mark_again : (p : Part) (bytes rest : List ℕ) → part_at bytes ≡ Some (p, rest) → mark_at 3 bytes ≡ Some (Some p, rest)
+mark_again : (p : Part) (bytes rest : List ℕ) → part_at bytes ≡ Some (p, rest) → mark_at 1346458196 bytes ≡ Some (Some p, rest)
 unfolding mark_at
 mark_again p bytes rest read = rw read refl
 
@@ -108,11 +108,11 @@ marked_again p m z text mark fits near =
     let body = to_be_bytes w32 (length text) ++ text in
     let rest = mark_bytes (Some p) ++ body in
     let far = to_be_bytes w64 (cast_unsigned w64 z) ++ rest in
-    let bytes = to_be_bytes w32 3 ++ byte_of m ∷ far in
+    let bytes = to_be_bytes w32 1346458196 ++ byte_of m ∷ far in
     let parts : head_bytes (record { version = 2; within = z; model = m; part = Some p; text = text }) ≡ bytes = simp append_assoc in
-    let first = word_again 3 (byte_of m ∷ far) (omega arith) in
+    let first = word_again 1346458196 (byte_of m ∷ far) (omega arith) in
     ap (λ (b : List ℕ). head_of (record { kind = 1; body = b })) parts
-    ∙ head_from bytes (byte_of m ∷ far) far rest body 3 m z (Some p) text first refl (model_again m far) (distance_again z rest (distance_fits z near) near) (mark_again p rest body (part_again p body mark)) (text_again text fits)
+    ∙ head_from bytes (byte_of m ∷ far) far rest body 1346458196 m z (Some p) text first refl (model_again m far) (distance_again z rest (distance_fits z near) near) (mark_again p rest body (part_again p body mark)) (text_again text fits)
 
 -- the head of a journal with records of the newest version
 pub head_again : (h : HeadView) → h.version ≡ 2 → length h.text < 2 ^ 32 → is_distance h.within ≡ true → IfSome h.part PartFits → head_of (record { kind = 1; body = head_bytes h }) ≡ Ok h

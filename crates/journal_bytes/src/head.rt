@@ -3,8 +3,9 @@ use problem_names::ModelName;
 /// The version of the journals of whole searches that are written.
 pub const VERSION: u32 = 2;
 
-/// The version of the journals of parts of a search. Its head has the part, and its records are those of version 2.
-pub const PART_VERSION: u32 = 3;
+/// What stands in the place of a version in the journals of parts of a search: the letters PART. Their head has the part, and their records are those
+/// of version 2.
+pub const PART_VERSION: u32 = 0x5041_5254;
 
 /// The greatest distance that a head may have: 2^50.
 pub const MOST_WITHIN: i64 = 0x4_0000_0000_0000;

@@ -4,7 +4,7 @@
 //! record's kind, the length of its body, the body, and the SHA-256 of the digest before it with all of this. `read_journal`
 //! reads a file up to the first closed gate, or gives the first cause for which it is refused; what it reads is spelled so.
 //! `head_body` and `record_body` give the one spelling of a body, which reads back as the same head or record, and `seal`
-//! what stands after its gate. A head of version 3 tells of which part of a search the journal is; its records are those of version 2.
+//! what stands after its gate. A head with the mark of a part tells of which part of a search the journal is; its records are those of version 2.
 //! `body_size` tells how many bytes the body of a record has. The crate touches no file. It stands on `sha2`, and on `problem_names` for
 //! a head's problem.
 //!

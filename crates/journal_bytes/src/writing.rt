@@ -34,7 +34,7 @@ fn push_mark(body: &mut Vec<u8>, mark: Option<Part>) -> Result<(), AllocError>
     Ok(())
 }
 
-/// The body of a head: in version 3 where it has a part, and else in version 2. The text has fewer than `2^32` bytes, the distance is from 0 to
+/// The body of a head: with the mark of a part where it has one, and else in version 2. The text has fewer than `2^32` bytes, the distance is from 0 to
 /// `MOST_WITHIN`, and the number of a part is less than that of the parts.
 ///
 /// # Errors

@@ -70,7 +70,7 @@ fn add_head<D: Disk>(
 }
 
 /// Begins a journal with this head in a file that has none: syncs, writes a closed gate where the file has 0 or 1 bytes, and
-/// adds the head as `append` adds a record. The journal is of version 2, or of version 3 where the head has a part. The text of the head
+/// adds the head as `append` adds a record. The journal is of version 2, or has the mark of a part where the head has one. The text of the head
 /// has at most `2^30` bytes, the distance is from 0 to 2^50, and the number of a part is less than that of the parts.
 ///
 /// # Errors

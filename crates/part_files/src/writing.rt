@@ -55,8 +55,8 @@ fn journal_of_one(alloc: Global, head: &Head, entry: &Record) -> Result<Vec<u8>,
     Ok(file)
 }
 
-/// The bytes of a journal with this head and this one record, the snapshot with which the search of a part begins. The journal is of version 3
-/// where the head has a part, and else of version 2. The distance is from 0 to 2^50, and the number of a part is less than that of the parts.
+/// The bytes of a journal with this head and this one record, the snapshot with which the search of a part begins. The journal has the
+/// mark of a part where the head has one, and else is of version 2. The distance is from 0 to 2^50, and the number of a part is less than that of the parts.
 ///
 /// # Errors
 ///
