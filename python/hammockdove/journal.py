@@ -1,4 +1,4 @@
-"""Reads a search's journal, versions 1 to 3, without changing it and also while a search writes it (docs/FORMATS.md, "Journals").
+"""Reads a search's journal, versions 1 and 2 and that of a part, without changing it and also while a search writes it (docs/FORMATS.md, "Journals").
 
 The reader tests the bytes: gates, digests, lengths and fields. Whether a record may follow where it stands is tested by the program,
 when it resumes the journal.
@@ -15,7 +15,7 @@ from typing import NamedTuple, NoReturn
 
 from .errors import JournalDamaged, NotBegun
 
-VERSIONS = (1, 2, 3)
+VERSIONS = (1, 2)
 MODELS = {1: "knapsack", 2: "maxcut", 3: "max2sat", 4: "tsptw", 5: "tardiness", 6: "table", 7: "qubo"}
 MOST_WITHIN = 2**50
 
@@ -24,7 +24,9 @@ _NO_TICKET = 2**64 - 1
 _OPEN = b"\x01"
 _FRAME = struct.Struct(">BI")
 _DIGEST_BYTES = 32
-_PART_VERSION = int.from_bytes(b"PART", "big")
+# The head of the journal of a part has this in the place of a version; its records are those of version 2.
+_PART_MARK = int.from_bytes(b"PART", "big")
+_PART_VERSION = 2
 _FRAMING = 1 + _FRAME.size + _DIGEST_BYTES
 
 
@@ -46,8 +48,8 @@ class Part:
 class Head(NamedTuple):
     """Which search the journal is of.
 
-    `within` is its distance, 0 in version 1; `text` is the canonical text of the instance. `part` is the part that the journal is of, in
-    version 3, and None where it is of a whole search.
+    `within` is its distance, 0 in version 1; `text` is the canonical text of the instance. `part` is the part that the journal is of, and
+    None where it is of a whole search. `version` is that of the records, 2 of a part.
     """
 
     version: int
@@ -88,7 +90,7 @@ class Subproblem(NamedTuple):
 
 
 class Snapshot(NamedTuple):
-    """All that is open, from which a replay may begin (versions 2 and 3)."""
+    """All that is open, from which a replay may begin (version 2)."""
 
     incumbent: Improve | None
     next_ticket: int
@@ -250,16 +252,17 @@ def _fields(kind: int, body: _Body, head: Head | None, offset: int) -> Record:
 
 
 def _head(body: _Body, offset: int) -> Head:
-    version = body.u32()
+    mark = body.u32()
+    version = _PART_VERSION if mark == _PART_MARK else mark
     if version not in VERSIONS:
-        raise JournalDamaged("version", offset, f"version {version}, and this reader knows 1 to 3")
+        raise JournalDamaged("version", offset, f"version {version}, and this reader knows 1 and 2")
     number = body.byte()
     if number not in MODELS:
         body.refuse(f"its problem is number {number}")
     within = body.i64() if version > 1 else 0
     if not 0 <= within <= MOST_WITHIN:
         body.refuse(f"its distance is {within}")
-    part = body.part() if version == _PART_VERSION else None
+    part = body.part() if mark == _PART_MARK else None
     return Head(version, MODELS[number], within, body.text(), part)
 
 

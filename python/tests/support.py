@@ -52,12 +52,13 @@ class ProgramCase(RoomCase):
 
 
 DIGEST = bytes(range(32))
+MARK = int.from_bytes(b"PART", "big")
 
 
 def head(version=1, number=1, within=0, text=TEXT, part=(1, 3, DIGEST)):
-    """In version 3 of the part (number, of how many, digest)."""
+    """With MARK in the place of a version it is the head of the part (number, of how many, digest)."""
     distance = struct.pack(">q", within) if version > 1 else b""
-    mark = struct.pack(">II", *part[:2]) + part[2] if version > 2 else b""
+    mark = struct.pack(">II", *part[:2]) + part[2] if version == MARK else b""
     return 1, struct.pack(">IB", version, number) + distance + mark + struct.pack(">I", len(text)) + text
 
 
@@ -119,8 +120,8 @@ def part_of_search(index=0):
     begun = bytes_of(small_search(2)[:3])
     part = (index, 2, begun[-33:-1])
     if index == 0:
-        return [head(3, part=part), snapshot((110, [1, 1, 0]), 3, (1, 121, [1]))]
-    return [head(3, part=part), snapshot((110, [1, 1, 0]), 3, (2, 120, [0])), improve(120, 0, 1, 1), finish(2)]
+        return [head(MARK, part=part), snapshot((110, [1, 1, 0]), 3, (1, 121, [1]))]
+    return [head(MARK, part=part), snapshot((110, [1, 1, 0]), 3, (2, 120, [0])), improve(120, 0, 1, 1), finish(2)]
 
 
 def best_of(instance, choices):

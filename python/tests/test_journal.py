@@ -1,6 +1,6 @@
 import unittest
 
-from support import DIGEST, RoomCase, bytes_of, finish, head, improve, part_of_search, small_search, snapshot, snapshot_each
+from support import DIGEST, MARK, RoomCase, bytes_of, finish, head, improve, part_of_search, small_search, snapshot, snapshot_each
 
 from hammockdove import JournalDamaged, NotBegun
 from hammockdove.journal import Finish, Head, Improve, Journal, Part, Snapshot, read
@@ -37,8 +37,8 @@ class JournalTests(JournalCase):
 
     def test_first_bytes(self):
         self.assertTrue(bytes_of([head(1)]).startswith(bytes.fromhex("01 01 00 00 00 1d 00 00 00 01 01 00 00 00 14")))
-        part = "01 01 00 00 00 4d 00 00 00 03 01 00 00 00 00 00 00 00 00 00 00 00 01 00 00 00 03" + DIGEST.hex() + "00 00 00 14"
-        self.assertTrue(bytes_of([head(3)]).startswith(bytes.fromhex(part)))
+        part = "01 01 00 00 00 4d 50 41 52 54 01 00 00 00 00 00 00 00 00 00 00 00 01 00 00 00 03" + DIGEST.hex() + "00 00 00 14"
+        self.assertTrue(bytes_of([head(MARK)]).startswith(bytes.fromhex(part)))
         self.assertTrue(bytes_of([head(2)]).startswith(bytes.fromhex("01 01 00 00 00 25 00 00 00 02 01 00 00 00 00 00 00 00 00 00 00 00 14")))
 
     def test_snapshot(self):
@@ -51,9 +51,9 @@ class JournalTests(JournalCase):
         self.assertEqual(self.refused(bytes_of([head(1), record])), ("malformed", 67))
 
     def test_part(self):
-        self.path.write_bytes(bytes_of([head(3, within=7), snapshot(None, 3, (2, 120, [0]))]))
+        self.path.write_bytes(bytes_of([head(MARK, within=7), snapshot(None, 3, (2, 120, [0]))]))
         found, entries = read(self.path)
-        self.assertEqual(found, Head(3, "knapsack", 7, b"3 10\n60 5\n50 4\n70 6\n", Part(1, 3, DIGEST.hex())))
+        self.assertEqual(found, Head(2, "knapsack", 7, b"3 10\n60 5\n50 4\n70 6\n", Part(1, 3, DIGEST.hex())))
         self.assertEqual((str(found.part), [it.offset for it in entries]), ("1/3", [115]))
         self.assertEqual(entries[0].record, Snapshot(None, 3, ((2, 120, (0,)),)))
 
@@ -101,9 +101,9 @@ class JournalTests(JournalCase):
 
     def test_fields_that_are_none(self):
         for name, records, wanted in (
-            ("version", [head(4)], ("version", 0)),
-            ("part", [head(3, part=(3, 3, DIGEST))], ("malformed", 0)),
-            ("digest of a part", [head(3, part=(0, 3, DIGEST[:4]), text=b"")], ("malformed", 0)),
+            ("version", [head(3)], ("version", 0)),
+            ("part", [head(MARK, part=(3, 3, DIGEST))], ("malformed", 0)),
+            ("digest of a part", [head(MARK, part=(0, 3, DIGEST[:4]), text=b"")], ("malformed", 0)),
             ("problem", [head(1, number=9)], ("malformed", 0)),
             ("distance", [head(2, within=-1)], ("malformed", 0)),
             ("second head", [head(1), head(1)], ("malformed", 67)),
@@ -147,7 +147,7 @@ class ProgressTests(JournalCase):
         self.assertEqual([it.open for it in found], [1, 1, 0, 0])
         self.assertEqual([it.bound for it in found], [None, 120, 120, 120])
         # Where nothing was dealt to a part, there is nothing to do in it.
-        self.assertEqual([it.is_done for it in self.after_each([head(3), snapshot((110, [1, 1, 0]), 3)])], [False, True])
+        self.assertEqual([it.is_done for it in self.after_each([head(MARK), snapshot((110, [1, 1, 0]), 3)])], [False, True])
 
     def test_replaced(self):
         found = self.after_each([head(), finish(0, (None, 50, [1]), (None, 40, [0])), finish(1, (2, 45, [1, 0]))])
@@ -183,7 +183,7 @@ class ContentsTests(JournalCase):
 
     def test_part(self):
         said = self.said(bytes_of(part_of_search(0)))
-        self.assertEqual(said[:5], ["version 3", "problem knapsack", "within 0", f"part 0/2 of journal {bytes_of(small_search(2)[:3])[-33:-1].hex()}", "instance 20 bytes"])
+        self.assertEqual(said[:5], ["version 2", "problem knapsack", "within 0", f"part 0/2 of journal {bytes_of(small_search(2)[:3])[-33:-1].hex()}", "instance 20 bytes"])
         self.assertEqual(said[-5:], ["open 1", "best 110", "bound 121", "assignment 1 1 0", "end 214"])
 
     def test_snapshot_after_each_finish(self):

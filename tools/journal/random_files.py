@@ -22,6 +22,10 @@ def decisions(draw):
     return struct.pack(">I", len(some)) + b"".join(struct.pack(">I", d) for d in some)
 
 
+# What the head of a part's journal has in the place of a version.
+PART = int.from_bytes(b"PART", "big")
+
+
 def listed(draw, numbers):
     """A number of rows, each a ticket or one of these numbers, a bound and decisions."""
     rows = draw.choice([0, 1, 2])
@@ -34,9 +38,9 @@ def listed(draw, numbers):
 def body(draw, kind):
     if kind == 1:
         text = draw.choice([b"", b"0 5\n", b"x" * 20])
-        version = draw.choice([1] * 15 + [2] * 20 + [3] * 15 + [0, 4])
-        within = struct.pack(">q", draw.choice([0] * 20 + [1, 2**50, 2**50 + 1, -1])) if version in (2, 3) else b""
-        part = struct.pack(">II", draw.choice([0, 0, 1, 2]), draw.choice([1, 2, 3, 2**32 - 1])) + bytes(32) if version == 3 else b""
+        version = draw.choice([1] * 15 + [2] * 20 + [PART] * 15 + [0, 3])
+        within = struct.pack(">q", draw.choice([0] * 20 + [1, 2**50, 2**50 + 1, -1])) if version in (2, PART) else b""
+        part = struct.pack(">II", draw.choice([0, 0, 1, 2]), draw.choice([1, 2, 3, 2**32 - 1])) + bytes(32) if version == PART else b""
         problem = draw.choice([1, 2, 3, 4, 5, 6] * 6 + [0, 7, 255])
         return struct.pack(">IB", version, problem) + within + part + struct.pack(">I", len(text)) + text
     if kind == 2:
