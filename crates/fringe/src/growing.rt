@@ -9,7 +9,7 @@ use crate::reindexing::index_for;
 use crate::store::Store;
 use std::alloc::{AllocError, Global};
 
-/// This many more empty slots. It takes no memory.
+/// Appends `count` empty slots. It takes no memory.
 fn push_empty(slots: &mut Vec<Option<Listed>>, count: usize)
     requires { vec_len slots.old + count ≤ vec_capacity slots.old }
     ensures slots { (s : ℕ) → in_slot slots.new.items s ≡ in_slot slots.old.items s }

@@ -71,7 +71,7 @@ pub(crate) fn part_in(bytes: &[u8]) -> Result<(Part, &[u8]), BodyError>
     Ok((Part { index, of, digest }, rest))
 }
 
-/// This many decisions.
+/// Reads `count` decisions.
 fn decisions_in(alloc: Global, count: u32, bytes: &[u8]) -> Result<(Vec<u32>, &[u8]), BodyError>
     ensures { Gives (λ x. (x.0.items, x.1.now)) result (many (number_at w32) count bytes.now) }
 {
@@ -115,7 +115,7 @@ fn child_of(alloc: Global, bytes: &[u8]) -> Result<(Child, &[u8]), BodyError>
     ))
 }
 
-/// This many children.
+/// Reads `count` children.
 fn children_in(alloc: Global, count: u32, bytes: &[u8]) -> Result<(Vec<Child>, &[u8]), BodyError>
     ensures { Gives (λ x. (map child_view x.0.items, x.1.now)) result (many child_at count bytes.now) }
 {
@@ -202,7 +202,7 @@ fn listed_of(alloc: Global, bytes: &[u8]) -> Result<(Listed, &[u8]), BodyError>
     ))
 }
 
-/// This many subproblems of a snapshot.
+/// Reads `count` subproblems of a snapshot.
 fn listed_in(alloc: Global, count: u32, bytes: &[u8]) -> Result<(Vec<Listed>, &[u8]), BodyError>
     ensures { Gives (λ x. (map listed_view x.0.items, x.1.now)) result (many listed_at count bytes.now) }
 {

@@ -85,8 +85,8 @@ fn layers_for<M: DpModel>(
     Ok(layers)
 }
 
-/// The layers before a compilation, with room for this many candidates. The region has rows for all layers, and for a beam with so
-/// many members a layer besides; the last layer and the beam each hold one row ahead.
+/// The layers before a compilation, with room for this many candidates. The region has rows for all layers, and for a beam with
+/// as many members a layer besides; the last layer and the beam each hold one row ahead.
 pub(crate) fn prepare_stack<M: DpModel>(
     alloc: Global,
     model: &M,

@@ -215,7 +215,7 @@ impl Workspace {
         Some(self.stack.newest.value(node))
     }
 
-    /// This many decisions that were written last as the last layer is deep.
+    /// The decisions that were written last, as many as the last layer is deep.
     fn last_path(&self) -> &[u32]
         requires { last_depth self.now ≤ length self.now.path }
         ensures { result.now ≡ take (last_depth self.now) self.now.path }

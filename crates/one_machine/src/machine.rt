@@ -74,7 +74,7 @@ impl OneMachine {
         left(self.jobs.len(), s)
     }
 
-    /// How many jobs must be taken after a decision, or none where it is not allowed. This many as the rank must be taken before.
+    /// How many jobs must be taken after a decision, or none where it is not allowed. The rank is their number before.
     #[inline(always)]
     pub(crate) fn rank_after(&self, k: usize, s: &[i64], rank: i64, job: usize) -> Option<i64>
         requires layer { k < length self.now.jobs.items }

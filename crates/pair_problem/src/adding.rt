@@ -13,7 +13,7 @@ use benefit_rows::{above_zero, below_zero, size};
 use pair_rows::{PairInstance, PairValues, UnitValues};
 use std::alloc::{AllocError, Global};
 
-/// This many variables of two values, at most 1,024, that give nothing. Fails only for want of memory.
+/// An instance of `variables` variables of two values, at most 1,024, that give nothing. Fails only for want of memory.
 pub fn nothing_of(alloc: Global, variables: usize) -> Result<PairInstance, AllocError>
     requires { variables ≤ 1024 }
     ensures { IfOk result (λ list. instance_of list ≡ nothing_of variables) }

@@ -86,8 +86,8 @@ pub fn left(n: usize, s: &[i64]) -> i64
     count(parts_of(n, s).must) as i64
 }
 
-/// How many numbers must be done once one is done, or none where that one neither must nor may be done. This many as the rank must
-/// be done before.
+/// How many numbers must be done once one is done, or none where that one neither must nor may be done. The rank is the number of
+/// those that must be done before.
 #[inline(always)]
 pub fn left_after(n: usize, s: &[i64], rank: i64, number: usize) -> Option<i64>
     requires few { n ≤ 1024 }

@@ -5,7 +5,7 @@ ghost use Rattle.std.specs.Borrow.{sem, Lends, Array, i64};
 ghost use Rattle.row_region.specs.Region.{refilled};
 ghost use Rattle.row_region.specs.Parts.{LendsWhole, LendsPart};
 
-/// This many cells from the place on. What is left in them stands there afterwards.
+/// The `words` cells from the place on. What is left in them stands there afterwards.
 pub fn part(cells: &mut [i64], at: usize, words: usize) -> &mut [i64]
     requires { at + words ≤ length cells.old }
     ensures* writes_back { sem 𝓛 (Lends (Array i64 0) (Array i64 0) cells.entry result (λ ws. take at cells.old ++ (refilled words (take words (drop at cells.old)) ws ++ drop words (drop at cells.old)))) }
@@ -22,7 +22,7 @@ fn whole(cells: &mut Vec<i64>) -> &mut [i64]
     cells.as_mut_slice()
 }
 
-/// This many cells from the place on, as `part` gives them.
+/// The `words` cells from the place on, as `part` gives them.
 pub fn part_of(cells: &mut Vec<i64>, at: usize, words: usize) -> &mut [i64]
     requires { at + words ≤ vec_len cells.old }
     ensures* writes_back { sem 𝓛 (LendsPart cells.entry at words result) }

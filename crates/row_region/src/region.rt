@@ -66,7 +66,7 @@ impl Region {
         }
     }
 
-    /// This many rows of this many cells, all free. It fails only for want of memory.
+    /// A region of `rows` rows of `words` cells, all free. It fails only for want of memory.
     ///
     /// A row has at least one cell.
     pub fn new(alloc: Global, words: usize, rows: usize) -> Result<Region, AllocError>

@@ -24,7 +24,7 @@ impl Model for Parts {
 }
 
 impl Parts {
-    /// This many parts.
+    /// Parts of this number.
     pub fn new(count: u32) -> Parts
         requires some { 0 < count }
         requires few { count ≤ 64 }

@@ -129,7 +129,7 @@ impl TspWindows {
     }
 
     /// How a node other than 0 that must or may be visited is reached, or none where it is no such node or is not reached in
-    /// time. Node 0 never must or may be. This many nodes as the rank must be visited.
+    /// time. Node 0 never must or may be. The rank is the number of nodes that must be visited.
     #[inline(always)]
     fn visited(&self, s: &[i64], rank: i64, to: usize) -> Option<Reached>
         requires state { IsTrue (is_state_row self.now.nodes s.now) }
@@ -151,7 +151,7 @@ impl TspWindows {
     }
 
     /// When node 0 is reached again, or none where it is another node, a node is left to be visited or it is not reached in
-    /// time. This many nodes as the rank must be visited.
+    /// time. The rank is the number of nodes that must be visited.
     #[inline(always)]
     fn returned(&self, s: &[i64], rank: i64, to: usize) -> Option<u64>
         requires state { IsTrue (is_state_row self.now.nodes s.now) }
@@ -180,8 +180,8 @@ impl TspWindows {
         }
     }
 
-    /// How the node of a decision is reached, or none where the decision is not allowed. This many nodes as the rank must be
-    /// visited.
+    /// How the node of a decision is reached, or none where the decision is not allowed. The rank is the number of nodes that
+    /// must be visited.
     #[inline(always)]
     fn reached(&self, k: usize, s: &[i64], rank: i64, to: usize) -> Option<Reached>
         requires layer { k < self.now.nodes }
@@ -237,8 +237,8 @@ impl TspWindows {
         left(self.nodes, pending_of(self.nodes, s))
     }
 
-    /// The sum of the least ways to the nodes that must be visited and home, or none where the state is lost. This many nodes as
-    /// the rank must be visited.
+    /// The sum of the least ways to the nodes that must be visited and home, or none where the state is lost. The rank is the
+    /// number of nodes that must be visited.
     fn way_left(&self, k: usize, s: &[i64], rank: i64) -> Option<u64>
         requires layer { k < self.now.nodes }
         requires state { IsTrue (is_state_row self.now.nodes s.now) }

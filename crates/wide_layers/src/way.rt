@@ -72,7 +72,7 @@ fn make_part<M: DpModel>(
 }
 
 impl<'r, R: Threads + Sync> Wide<'r, R> {
-    /// This many parts, from 1 to 64. It takes no memory.
+    /// A way with `parts` parts, from 1 to 64. It takes no memory.
     pub fn new(rt: &'r R, alloc: Global, parts: u32) -> Wide<'r, R>
         requires some { 0 < parts }
         requires few { parts ≤ 64 }
