@@ -170,10 +170,11 @@ fn resume_job(alloc: Global, matches: &ArgMatches) -> Result<Job, WordsError>
     };
     let settings = read_settings(matches, is_given(matches, "stats"))?;
     let path = String::from_str(alloc, path)?;
+    let incumbent = is_given(matches, "incumbent");
     Ok(Job::Resume {
         path,
         settings,
-        incumbent: is_given(matches, "incumbent"),
+        incumbent,
     })
 }
 
