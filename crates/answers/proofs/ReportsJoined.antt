@@ -33,7 +33,8 @@ use Rattle.answers.specs.Ended.{IsInputAnswer, Readings, WasRead}
 use Rattle.answers.specs.Opened.{ReadsNamed}
 use Rattle.answers.specs.Outcomes.{IsTrueOf}
 use Rattle.answers.specs.PartSearches.{AreSettledWithin}
-use Rattle.answers.specs.ReportsJoined.{AreAllHeld, DoesNotJoin, HasBest, HasJoined, IsTrueJoined, JoinsFrom, JoinsIn, JoinsJournal, JoinsReports, RefusesReport, RefusesReports, TellsJoined, joined_answer, parts_told, starts_for, whole_outcome}
+use Rattle.answers.specs.Offers.{RefusesReport, parts_told}
+use Rattle.answers.specs.ReportsJoined.{AreAllHeld, DoesNotJoin, HasBest, HasJoined, IsTrueJoined, JoinsFrom, JoinsIn, JoinsJournal, JoinsReports, RefusesReports, TellsJoined, joined_answer, starts_for, whole_outcome}
 use Rattle.answers.specs.Splits.{idle_settings, stopped_board}
 use Rattle.answers.proofs.Conclusions.{found_holds, reach_infeasible, reach_proved}
 use Rattle.answers.proofs.Texts.{whole}

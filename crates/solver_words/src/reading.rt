@@ -170,7 +170,11 @@ fn resume_job(alloc: Global, matches: &ArgMatches) -> Result<Job, WordsError>
     };
     let settings = read_settings(matches, is_given(matches, "stats"))?;
     let path = String::from_str(alloc, path)?;
-    Ok(Job::Resume { path, settings })
+    Ok(Job::Resume {
+        path,
+        settings,
+        incumbent: is_given(matches, "incumbent"),
+    })
 }
 
 fn read_split(alloc: Global, words: &[String]) -> Result<Job, WordsError>
