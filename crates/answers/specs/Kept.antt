@@ -28,8 +28,8 @@ use Rattle.answers.specs.Checks.{RefusesInstance}
 use Rattle.answers.specs.Covers.{IsCovered}
 use Rattle.answers.specs.Outcomes.{HasSearched}
 use Rattle.answers.specs.PartSearches.{HasSearchedPart}
-use Rattle.answers.specs.Journals.{AreFrontsAdded, Attaches, HasGoneOn, HasKept, IsRefusedToBegin, IsUnwritten, LeavesBegun, LeavesResumed, MightBegin, SinceAttached}
-use Rattle.answers.specs.Offers.{HasTaken, RefusesOffer, RefusesReport, part_stop, part_value, parts_told, told_stop, told_value}
+use Rattle.answers.specs.Journals.{AreFrontsAdded, Attaches, HasDiskFailed, HasGoneOn, HasKept, IsRefusedToBegin, IsUnwritten, LeavesBegun, LeavesResumed, MightBegin, SinceAttached}
+use Rattle.answers.specs.Offers.{HasTaken, RefusesOffer, RefusesReport, part_value, parts_told, told_value}
 use Rattle.answers.specs.Widths.{IsRefusedWidth, IsSearchWidth}
 use Rattle.solver_words.specs.declared.job.JobSettings.{JobSettings}
 
@@ -81,7 +81,7 @@ module _ {D : Type 0} (on : Ghosts D) where
   GoesOn dp own head records first offers search now (answers.Journal e) = AreRefused dp first records e
   GoesOn dp own head records first offers search now (answers.ReportsRefused refusal) = AreAccepted dp records × RefusesOffer dp offers refusal
   GoesOn dp own head records first offers search now answer =
-      Ends dp (going_on head search) (λ outcome counts. AreAccepted dp records × HasTaken dp offers (told_stop outcome) (told_value outcome)
+      Ends dp (going_on head search) (λ outcome counts. AreAccepted dp records × HasTaken (HasDiskFailed on now) dp offers (told_value outcome)
       × HasSearched dp own (λ settings. restored_from settings (replay_of dp records)) (AreSound dp head.within records) (going_on head search)
       (HasKept on dp head records (LeavesResumed on head records) now) outcome counts) answer
 
@@ -90,7 +90,7 @@ module _ {D : Type 0} (on : Ghosts D) where
   GoesOnPart dp own part starts head records first offers search now (answers.Journal e) = AreRefused dp first records e
   GoesOnPart dp own part starts head records first offers search now (answers.ReportsRefused refusal) = AreAccepted dp records × RefusesOffer dp offers refusal
   GoesOnPart dp own part starts head records first offers search now answer =
-      EndsPart dp search (searched_part part) (λ outcome counts. AreAccepted dp records × HasTaken dp offers (part_stop outcome) (part_value outcome)
+      EndsPart dp search (searched_part part) (λ outcome counts. AreAccepted dp records × HasTaken (HasDiskFailed on now) dp offers (part_value outcome)
       × HasSearchedPart dp own starts (λ settings. restored_from settings (replay_of dp records)) (AreSoundOf dp starts head.within records) (going_on head search)
       (HasKept on dp head records (LeavesResumed on head records) now) outcome counts) answer
 

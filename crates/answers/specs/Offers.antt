@@ -1,5 +1,5 @@
 -- What becomes of solutions that reports of settled parts offer to a search before it goes on.
-use Rattle.std.specs.Prelude.{◌≡◌, ℤ, List, map, Option, Some, None}
+use Rattle.std.specs.Prelude.{◌≡◌, ◌⊎◌, ℤ, List, map, Option, Some, None}
 use Rattle.dp_model.specs.Dp.{Dp}
 use Rattle.dp_model.specs.Lists.{Each}
 use Rattle.dp_model.specs.Numbers.{OptionAtMost}
@@ -14,8 +14,6 @@ use Rattle.solver_report.specs.declared.answer.PartOutcome.{PartOutcome}
 use Rattle.solver_report.specs.declared.answer.PartOutcome.TheVariants as part_outcomes
 use Rattle.solver_report.specs.declared.answer.ReportRefusal.{ReportRefusal}
 use Rattle.solver_report.specs.declared.answer.ReportRefusal.TheVariants as refusals
-use Rattle.solver_report.specs.declared.answer.Stop.{Stop}
-use Rattle.solver_report.specs.declared.answer.Stop.TheVariants as stops
 use Rattle.tokens.specs.declared.instance_error.InstanceError.{InstanceError}
 
 -- what reports tell of their parts
@@ -36,33 +34,21 @@ told_value (outcomes.Proved best within) = Some best.value
 told_value outcomes.Infeasible = None
 told_value (outcomes.Stopped stop best bound) = value_held best
 
--- why the search stopped, or none where it went to its end
-abbrev pub told_stop : Outcome → Option Stop
-told_stop (outcomes.Proved best within) = None
-told_stop outcomes.Infeasible = None
-told_stop (outcomes.Stopped stop best bound) = Some stop
-
 -- the value that is told of a part
 abbrev pub part_value : PartOutcome → Option ℤ
 part_value (part_outcomes.Settled best within) = value_held best
 part_value (part_outcomes.Stopped stop best bound) = value_held best
 
--- why its search stopped
-abbrev pub part_stop : PartOutcome → Option Stop
-part_stop (part_outcomes.Settled best within) = None
-part_stop (part_outcomes.Stopped stop best bound) = Some stop
-
 -- ---- what becomes of the offers
 
--- each offered solution is worth at most the value that is told, unless the journal failed
-abbrev pub AreTaken : List ReportView → Option Stop → Option ℤ → Type 0
-AreTaken offers (Some stops.Journal) told = Unit {0}
-AreTaken offers stop told = Each (λ (r : ReportView). OptionAtMost (value_told r) told) offers
+-- each offered solution is worth at most the value
+abbrev pub AreWorthAtMost : List ReportView → Option ℤ → Type 0
+AreWorthAtMost offers value = Each (λ (r : ReportView). OptionAtMost (value_told r) value) offers
 
--- the offered solutions are feasible with their values, and taken
-pub record HasTaken (dp : Dp) (offers : List ReportView) (stop : Option Stop) (told : Option ℤ) : Type 0 where
+-- the offered solutions are feasible with their values, and worth at most the value that is told, unless what is kept of the search has failed
+pub record HasTaken (Failed : Type 0) (dp : Dp) (offers : List ReportView) (told : Option ℤ) : Type 0 where
   pub tested : AreTested dp offers
-  pub taken : AreTaken offers stop told
+  pub taken : AreWorthAtMost offers told ⊎ Failed
 
 -- offers are refused for the first solution that is none with its value
 abbrev pub RefusesOffer : Dp → List ReportView → ReportRefusal → Type 0
