@@ -1,27 +1,15 @@
--- What reports of settled parts offer.
-use Rattle.std.proofs.Common.{◌≡◌, ◌⊎◌, ℕ, ℤ, List, Result, Ok, Err}
+-- Why an input offers no reports.
+use Rattle.std.proofs.Common.{◌≡◌, ◌⊎◌, ℕ, List, Result, Ok, Err}
 use Rattle.std.specs.Prelude.{MatchResult}
-use Rattle.dp_model.specs.Dp.{Dp}
-use Rattle.part_reports.specs.Reports.{ReportView}
 use Rattle.part_text.specs.Reports.{SettledView, reports_of}
 use Rattle.solver_report.specs.declared.answer.Answer.{Answer}
 use Rattle.solver_report.specs.declared.answer.Answer.TheVariants as answers
-use Rattle.solver_report.specs.declared.answer.Outcome.{Outcome}
-use Rattle.solver_report.specs.declared.answer.Outcome.TheVariants.{Proved, Infeasible, Stopped}
 use Rattle.tokens.specs.declared.instance_error.InstanceError.{InstanceError}
 use Rattle.answers.specs.Covers.{cover_limit}
 use Rattle.answers.specs.Ended.{Readings, WasRead}
-use Rattle.answers.specs.Offers.{HasTaken, RefusesReport, part_stop, part_value, told_stop, told_value}
+use Rattle.answers.specs.Offers.{RefusesReport}
 use Rattle.answers.specs.OffersRead.{IsNoOffer, RefusesOffers}
-use Rattle.answers.specs.PartSearches.{part_outcome}
 use Rattle.answers.proofs.Texts.{whole-or-memory}
-
--- what a search has taken is taken where it is told of a part
-pub part-taken : (dp : Dp) (offers : List ReportView) (within : ℤ) (outcome : Outcome) → HasTaken dp offers (told_stop outcome) (told_value outcome)
-    → HasTaken dp offers (part_stop (part_outcome within outcome)) (part_value (part_outcome within outcome))
-part-taken dp offers within (Proved best near) h = h
-part-taken dp offers within Infeasible h = h
-part-taken dp offers within (Stopped stop best bound) h = h
 
 -- an answer that tells no fault of a text of reports
 not-offers : (bytes : List ℕ) (answer : Answer) → ((e : InstanceError) → RefusesReport e answer → ⊥) → RefusesOffers bytes answer → ⊥
