@@ -1,6 +1,6 @@
 //! Reports of the parts of a stopped search, joined to that of the search.
 
-ghost use Rattle.std.specs.Prelude.{◌≡◌, ◌⊎◌, ◌<◌, ◌-◌, ◌^◌, ℕ, ℤ, List, length, map, option_map, is_some, IfErr, IfOk, OnOk};
+ghost use Rattle.std.specs.Prelude.{◌≡◌, ◌⊎◌, ◌<◌, ◌-◌, ◌^◌, ℕ, ℤ, List, length, map, option_map, is_some, IfErr, IfOk, MatchResult, OnOk};
 ghost use Rattle.dp_model.specs.Distances.{IsDistance};
 ghost use Rattle.dp_model.specs.Dp.{Dp};
 ghost use Rattle.board_laws.specs.Board.{value_held};
@@ -196,8 +196,8 @@ fn joined_best<M: DpModel>(
     reports: Vec<SettledReport>,
 ) -> Result<Option<Solution>, Answer>
     requires { IsDistance records.now.within }
-    ensures joined { IfOk result (HasJoined (M.meaning (M.numbers model)) records.now.within digest.now records.now.records (map settled_view reports.items)) }
-    ensures refused { IfErr result (DoesNotJoin (M.meaning (M.numbers model)) records.now.within digest.now records.now.first records.now.records (map settled_view reports.items)) }
+    ensures { MatchResult result (HasJoined (M.meaning (M.numbers model)) records.now.within digest.now records.now.records (map settled_view reports.items))
+        (DoesNotJoin (M.meaning (M.numbers model)) records.now.within digest.now records.now.first records.now.records (map settled_view reports.items)) }
 {
     let Ok(model) = Arc::new(alloc, model) else {
         return Err(Answer::OutOfMemory);
