@@ -1,5 +1,5 @@
 -- An answer for a file that is only read.
-use Rattle.std.proofs.Common.{◌≡◌, ◌⊎◌, inl, inr, ℕ, ◌+◌, List, [], ◌∷◌, Result, Ok, Err, refl, sym, subst, ap}
+use Rattle.std.proofs.Common.{◌≡◌, ◌⊎◌, inl, inr, ℕ, List, [], ◌∷◌, Ok, Err, refl, sym, subst, ap}
 use Rattle.std.specs.Prelude.{IsSome, MatchResult}
 use Rattle.disk.specs.declared.disk.Disk.{Ghosts}
 use Rattle.disk.specs.Counts.{Rose}
@@ -7,7 +7,7 @@ use Rattle.dp_model.specs.Dp.{Dp}
 use Rattle.journal_bytes.specs.Base.{base_offset, following_record, from_base}
 use Rattle.journal_bytes.specs.Bodies.{RecordView, RecordsView}
 use Rattle.journal_bytes.specs.Frames.{frames_of}
-use Rattle.journal_bytes.specs.Journal.{JournalView, after_head, journal_of, journal_view}
+use Rattle.journal_bytes.specs.Journal.{after_head, journal_of, journal_view}
 use Rattle.journal_bytes.specs.declared.head.Head.{Head}
 use Rattle.journal_bytes.specs.declared.tail.Tail.{Tail}
 use Rattle.journal_bytes.specs.declared.refusal.Refusal.{Refusal}

@@ -3,7 +3,6 @@ use Rattle.dp_model.specs.Laws.{IsLawful}
 use Rattle.journal_bytes.specs.Journal.{journal_view}
 use Rattle.part_text.specs.Reports.{settled_view}
 use Rattle.problem_theory.specs.Theory.{Agrees}
-use Rattle.solver_report.specs.declared.answer.Answer.{Answer}
 use Rattle.answers.specs.ReportsJoined.{HasJoined, JoinsIn, starts_for}
 use Rattle.answers.proofs.ReportsJoined.{joins-told}
 use Rattle.answers.proofs.reporting.join_model.Given as given

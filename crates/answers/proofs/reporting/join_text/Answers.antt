@@ -1,4 +1,4 @@
-use Rattle.std.proofs.Common.{◌≡◌, List, inl, inr, sym, subst, map}
+use Rattle.std.proofs.Common.{inr, map}
 use Rattle.part_text.specs.Reports.{settled_view}
 use Rattle.answers.proofs.ReportsJoined.{text-joined}
 use Rattle.answers.proofs.reporting.join_text.Goals as goal

@@ -1,4 +1,4 @@
-use Rattle.std.proofs.Common.{◌≡◌, ℤ, sym, ◌∙◌, ap, subst, map, w64, to_z, of_z, rules}
+use Rattle.std.proofs.Common.{◌≡◌, sym, ◌∙◌, ap, map, w64, to_z, of_z, rules}
 use Rattle.std.specs.Arc.{arc_value}
 use Rattle.dp_model.specs.Dp.{Dp}
 use Rattle.part_text.specs.Reports.{settled_view}
