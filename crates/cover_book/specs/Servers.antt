@@ -2,15 +2,9 @@
 use Rattle.std.specs.Prelude.{◌≡◌, ℕ}
 use Rattle.dp_model.specs.Dp.{Dp}
 use Rattle.dp_model.specs.Gaps.{IsStateOf}
-use Rattle.dp_model.specs.Lists.{Each}
 use Rattle.cover_book.specs.declared.serving.Server.{Server}
-use Rattle.cover_book.specs.declared.serving.Servers.{Servers}
 
 -- the row is a state of the layer, with its rank
 pub record IsServer (dp : Dp) (k : ℕ) (server : Server) : Type 0 where
   pub state : IsStateOf dp k server.words.items
   pub rank : server.rank ≡ dp.rank k server.words.items
-
--- each row is a state of the layer, with its rank
-abbrev pub AreServers : Dp → ℕ → Servers → Type 0
-AreServers dp k servers = Each (IsServer dp k) servers.list.items

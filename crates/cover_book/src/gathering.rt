@@ -1,11 +1,11 @@
 //! Layers of rows that diagrams leave, of which an exploration keeps some.
 
-ghost use Rattle.std.specs.Prelude.{◌≡◌, ◌≤◌, ◌<◌, IfOk, OnOk, length};
+ghost use Rattle.std.specs.Prelude.{◌≡◌, ◌≤◌, ◌<◌, OnOk, length};
 ghost use Rattle.bound_cover.specs.Clamping.{AreWritable, IsWritable};
 ghost use Rattle.bound_cover.specs.Stored.{last_layer};
-ghost use Rattle.cover_book.specs.Servers.{AreServers};
 
-use crate::serving::{Servers, add_server, serve};
+use crate::aim::Aim;
+use crate::serving::Servers;
 use crate::sources::{Below, NodeRow, RowSource, Wait};
 use crate::tracing::path_to;
 use crate::writing::{clamped_bound, highest, lowest};
@@ -26,21 +26,26 @@ pub(crate) struct Waiter {
     pub(crate) wait: Wait,
 }
 
-/// The rows of a layer, those of them that wait, in order, and the numbers of those that serve further ones.
-#[derive(Debug, Drop)]
-pub(crate) struct Gathered {
+/// The rows of a layer of a problem, those of them that wait, in order, and those that serve further ones.
+#[derive(Drop)]
+pub(crate) struct Gathered<'m, M: DpModel> {
     pub(crate) rows: Cover,
     pub(crate) waiting: Vec<Waiter>,
-    strong: Vec<u32>,
+    servers: Servers<'m, M>,
+    // The arcs of the row that is put in.
+    arcs: Vec<CoverArc>,
 }
 
-impl Gathered {
+impl<'m, M: DpModel> Gathered<'m, M> {
     /// A layer without rows. It takes no memory.
-    pub(crate) fn new(alloc: Global) -> Gathered {
+    pub(crate) fn new(alloc: Global, model: &'m M, depth: usize) -> Gathered<'m, M>
+        requires { depth ≤ (M.meaning (M.numbers model.now)).vars }
+    {
         Gathered {
             rows: Cover::new(alloc),
             waiting: Vec::new(alloc),
-            strong: Vec::new(alloc),
+            servers: Servers::new(alloc, model, depth, MOST_SERVERS),
+            arcs: Vec::new(alloc),
         }
     }
 
@@ -56,33 +61,20 @@ impl Gathered {
         Ok(())
     }
 
-    /// Its rows that serve others.
-    fn servers<M: DpModel>(
-        &self,
-        alloc: Global,
-        model: &M,
+    /// Puts in a row with the arcs of a node, whose targets' rows have these numbers.
+    fn push_with_arcs<S: RowSource>(
+        &mut self,
+        source: &S,
         depth: usize,
-    ) -> Result<Servers, OutOfMemory>
-        requires { depth ≤ (M.meaning (M.numbers model.now)).vars }
-        ensures { IfOk result (λ servers. AreServers (M.meaning (M.numbers model.now)) depth servers) }
-    {
-        let mut servers = Servers::new(alloc, MOST_SERVERS);
-        'strong: for number in self.strong.iter() {
-            if let Some(row) = self.rows.row(0, *number as usize) {
-                let bound = row.bound;
-                add_server(alloc, model, depth, row.words, bound, *number, &mut servers)?;
-            }
-        }
-        Ok(servers)
-    }
-
-    /// Keeps the numbers of the rows that serve others.
-    fn set_servers(&mut self, servers: &Servers) -> Result<(), OutOfMemory> {
-        self.strong.clear();
-        'servers: for server in servers.list.iter() {
-            self.strong.push(server.number)?;
-        }
-        Ok(())
+        node: usize,
+        bound: Option<i64>,
+        words: &[i64],
+        numbers: &[u32],
+    ) -> Result<(), OutOfMemory> {
+        self.arcs.clear();
+        source.add_arcs(depth, node, &mut self.arcs)?;
+        renumber(&mut self.arcs, numbers);
+        push_row(bound, words, Some(self.arcs.as_slice()), &mut self.rows)
     }
 }
 
@@ -139,17 +131,13 @@ pub(crate) fn push_row(
     cover.add_row(far_bound(bound), words, arcs)
 }
 
-/// The arcs with other numbers of their targets.
-pub(crate) fn renumbered(
-    alloc: Global,
-    arcs: &[CoverArc],
-    numbers: &[u32],
-) -> Result<Vec<CoverArc>, OutOfMemory> {
-    let mut new = Vec::new(alloc);
-    'arcs: for arc in arcs {
-        new.push(renumbered_arc(*arc, numbers))?;
+/// Gives the targets of arcs other numbers.
+pub(crate) fn renumber(arcs: &mut [CoverArc], numbers: &[u32]) {
+    'arcs: for i in 0..arcs.len() {
+        if let Some(arc) = arcs.get_mut(i) {
+            *arc = renumbered_arc(*arc, numbers);
+        }
     }
-    Ok(new)
 }
 
 /// An arc with another number of its target, where there is one.
@@ -200,19 +188,17 @@ fn below_at<M: DpModel>(model: &M, k: usize, row: &NodeRow) -> Below
 
 /// What a node waits for: what its diagram tells, or a diagram of the decisions by which it is reached.
 fn wait_of<M: DpModel, S: RowSource>(
-    alloc: Global,
-    model: &M,
-    claim: Option<i64>,
+    aim: &Aim<M>,
     source: &S,
     depth: usize,
     node: usize,
 ) -> Result<Option<Wait>, OutOfMemory>
-    requires { depth ≤ (M.meaning (M.numbers model.now)).vars }
+    requires { depth ≤ (M.meaning (M.numbers aim.now.model.now)).vars }
 {
-    if let Some(wait) = source.wait(alloc, depth, node)? {
+    if let Some(wait) = source.wait(aim.alloc, depth, node)? {
         return Ok(Some(wait));
     }
-    match path_to(alloc, model, claim, source, depth, node)? {
+    match path_to(aim, source, depth, node)? {
         None => Ok(None),
         Some(decisions) => Ok(Some(Wait {
             decisions,
@@ -223,98 +209,73 @@ fn wait_of<M: DpModel, S: RowSource>(
 
 /// Puts the row of a node into the layer, with its arcs, whose targets' rows have these numbers, or with what it waits for.
 fn put_node<M: DpModel, S: RowSource>(
-    alloc: Global,
-    model: &M,
-    claim: Option<i64>,
+    aim: &Aim<M>,
     source: &S,
     depth: usize,
     node: usize,
     row: &NodeRow,
-    below: Below,
     numbers: &[u32],
-    layer: &mut Gathered,
+    layer: &mut Gathered<M>,
 ) -> Result<(), OutOfMemory>
-    requires { depth ≤ (M.meaning (M.numbers model.now)).vars }
+    requires { depth ≤ (M.meaning (M.numbers aim.now.model.now)).vars }
 {
-    let bound = bound_at(model, depth, row.bound);
-    if below == Below::Arcs {
-        let arcs = source.arcs(alloc, depth, node)?;
-        let arcs = renumbered(alloc, arcs.as_slice(), numbers)?;
-        return push_row(bound, row.words, Some(arcs.as_slice()), &mut layer.rows);
+    let bound = bound_at(aim.model, depth, row.bound);
+    if row.below == Below::Arcs {
+        return layer.push_with_arcs(source, depth, node, bound, row.words, numbers);
     }
-    if below == Below::Waits {
-        if let Some(wait) = wait_of(alloc, model, claim, source, depth, node)? {
+    if row.below == Below::Waits {
+        if let Some(wait) = wait_of(aim, source, depth, node)? {
             layer.wait(layer.count(), wait)?;
         }
     }
     push_row(bound, row.words, None, &mut layer.rows)
 }
 
-/// The number of a node's row: one that serves it, or its own, which is put in then. The rows of its targets have these numbers.
+/// The number of a node's row: one that serves it, or its own, which is put in then, with that below it. The rows of its targets have
+/// these numbers.
 fn gather_node<M: DpModel, S: RowSource>(
-    alloc: Global,
-    model: &M,
-    claim: Option<i64>,
+    aim: &Aim<M>,
     source: &S,
     depth: usize,
     node: usize,
     below: Below,
     numbers: &[u32],
-    layer: &mut Gathered,
-    servers: &mut Servers,
+    layer: &mut Gathered<M>,
 ) -> Result<u32, OutOfMemory>
-    requires low { depth ≤ (M.meaning (M.numbers model.now)).vars }
-    requires servers { AreServers (M.meaning (M.numbers model.now)) depth servers.old }
-    ensures { AreServers (M.meaning (M.numbers model.now)) depth servers.new }
+    requires { depth ≤ (M.meaning (M.numbers aim.now.model.now)).vars }
 {
     let number = layer.count();
-    let Some(row) = source.row(claim, depth, node) else {
+    let Some(mut row) = source.row(aim.claim, depth, node) else {
         return Ok(number);
     };
-    let bound = bound_at(model, depth, row.bound);
-    if let Some(server) = serve(alloc, model, depth, row.words, bound, number, servers)? {
+    row.below = below;
+    let bound = bound_at(aim.model, depth, row.bound);
+    if let Some(server) = layer.servers.serve(aim.alloc, row.words, bound, number)? {
         return Ok(server);
     }
-    put_node(
-        alloc, model, claim, source, depth, node, &row, below, numbers, layer,
-    )?;
+    put_node(aim, source, depth, node, &row, numbers, layer)?;
     Ok(number)
 }
 
 /// The numbers of the rows of those nodes of a layer that need one. Those that none serves are put in.
 fn gather_layer<M: DpModel, S: RowSource>(
-    alloc: Global,
-    model: &M,
-    claim: Option<i64>,
+    aim: &Aim<M>,
     source: &S,
     depth: usize,
     needed: &[Option<Below>],
     numbers: &[u32],
-    layer: &mut Gathered,
+    layer: &mut Gathered<M>,
 ) -> Result<Vec<u32>, OutOfMemory>
-    requires { depth ≤ (M.meaning (M.numbers model.now)).vars }
+    requires { depth ≤ (M.meaning (M.numbers aim.now.model.now)).vars }
 {
-    let mut servers = layer.servers(alloc, model, depth)?;
-    let mut new = Vec::new(alloc);
+    let mut new = Vec::with_capacity(aim.alloc, needed.len())?;
     'nodes: for node in 0..needed.len() {
         let mut number = 0;
         if let Some(below) = needed[node] {
-            number = gather_node(
-                alloc,
-                model,
-                claim,
-                source,
-                depth,
-                node,
-                below,
-                numbers,
-                layer,
-                &mut servers,
-            )?;
+            number = gather_node(aim, source, depth, node, below, numbers, layer)?;
         }
         new.push(number)?;
     }
-    layer.set_servers(&servers)?;
     Ok(new)
 }
 
@@ -337,9 +298,11 @@ fn marks_below<S: RowSource>(
     above: &[Option<Below>],
 ) -> Result<Vec<bool>, OutOfMemory> {
     let mut marks = vec![in alloc; false; source.nodes(depth.saturating_add(1))]?;
+    let mut arcs = Vec::new(alloc);
     'nodes: for node in 0..above.len() {
         if above[node] == Some(Below::Arcs) {
-            let arcs = source.arcs(alloc, depth, node)?;
+            arcs.clear();
+            source.add_arcs(depth, node, &mut arcs)?;
             mark(arcs.as_slice(), &mut marks);
         }
     }
@@ -348,22 +311,20 @@ fn marks_below<S: RowSource>(
 
 /// What stands below the rows of the marked nodes of a layer; none for the others.
 fn needed_of<M: DpModel, S: RowSource>(
-    alloc: Global,
-    model: &M,
-    claim: Option<i64>,
+    aim: &Aim<M>,
     source: &S,
     depth: usize,
     marks: &[bool],
 ) -> Result<Vec<Option<Below>>, OutOfMemory>
-    requires { depth ≤ (M.meaning (M.numbers model.now)).vars }
+    requires { depth ≤ (M.meaning (M.numbers aim.now.model.now)).vars }
 {
-    let mut needed = vec![in alloc; None; marks.len()]?;
+    let mut needed = vec![in aim.alloc; None; marks.len()]?;
     'nodes: for node in 0..marks.len() {
         if !marks[node] {
             continue;
         }
-        if let Some(row) = source.row(claim, depth, node) {
-            let below = below_at(model, depth, &row);
+        if let Some(row) = source.row(aim.claim, depth, node) {
+            let below = below_at(aim.model, depth, &row);
             if let Some(cell) = needed.get_mut(node) {
                 *cell = Some(below);
             }
@@ -374,20 +335,18 @@ fn needed_of<M: DpModel, S: RowSource>(
 
 /// Which nodes need rows, and what stands below these, of each layer below the first one, down to the last layer that has such nodes.
 fn needed_nodes<M: DpModel, S: RowSource>(
-    alloc: Global,
-    model: &M,
-    claim: Option<i64>,
+    aim: &Aim<M>,
     source: &S,
 ) -> Result<Vec<Vec<Option<Below>>>, OutOfMemory> {
-    let mut above = vec![in alloc; Some(Below::Arcs); 1]?;
-    let mut layers = Vec::new(alloc);
-    'layers: for depth in source.first_depth()..model.vars() {
-        let marks = marks_below(alloc, source, depth, above.as_slice())?;
+    let mut above = vec![in aim.alloc; Some(Below::Arcs); 1]?;
+    let mut layers = Vec::new(aim.alloc);
+    'layers: for depth in source.first_depth()..aim.model.vars() {
+        let marks = marks_below(aim.alloc, source, depth, above.as_slice())?;
         if !marks.contains(&true) {
             break;
         }
-        let needed = needed_of(alloc, model, claim, source, depth + 1, marks.as_slice())?;
-        above = needed.to_vec(alloc)?;
+        let needed = needed_of(aim, source, depth + 1, marks.as_slice())?;
+        above = needed.to_vec(aim.alloc)?;
         layers.push(needed)?;
     }
     Ok(layers)
@@ -395,33 +354,22 @@ fn needed_nodes<M: DpModel, S: RowSource>(
 
 /// The numbers of the rows of the nodes just below a diagram's root, once the rows of all its layers are put in, the lowest first.
 fn gather_layers<M: DpModel, S: RowSource>(
-    alloc: Global,
-    model: &M,
-    claim: Option<i64>,
+    aim: &Aim<M>,
     source: &S,
-    layers: &mut [Gathered],
+    layers: &mut [Gathered<M>],
 ) -> Result<Vec<u32>, OutOfMemory> {
-    let needed = needed_nodes(alloc, model, claim, source)?;
+    let needed = needed_nodes(aim, source)?;
     let first = source.first_depth();
-    let mut numbers = Vec::new(alloc);
+    let mut numbers = Vec::new(aim.alloc);
     let count = needed.len();
     'layers: for i in 0..count {
         let here = needed[count - 1 - i].as_slice();
         let depth = first.saturating_add(count - i);
-        if depth > model.vars() {
+        if depth > aim.model.vars() {
             continue;
         }
         if let Some(layer) = layers.get_mut(depth) {
-            numbers = gather_layer(
-                alloc,
-                model,
-                claim,
-                source,
-                depth,
-                here,
-                numbers.as_slice(),
-                layer,
-            )?;
+            numbers = gather_layer(aim, source, depth, here, numbers.as_slice(), layer)?;
         }
     }
     Ok(numbers)
@@ -429,13 +377,13 @@ fn gather_layers<M: DpModel, S: RowSource>(
 
 /// Puts the rows of a diagram into the layers, and gives the arcs of its root.
 pub(crate) fn gather<M: DpModel, S: RowSource>(
-    alloc: Global,
-    model: &M,
-    claim: Option<i64>,
+    aim: &Aim<M>,
     source: &S,
-    layers: &mut [Gathered],
+    layers: &mut [Gathered<M>],
 ) -> Result<Vec<CoverArc>, OutOfMemory> {
-    let numbers = gather_layers(alloc, model, claim, source, layers)?;
-    let arcs = source.arcs(alloc, source.first_depth(), 0)?;
-    renumbered(alloc, arcs.as_slice(), numbers.as_slice())
+    let numbers = gather_layers(aim, source, layers)?;
+    let mut arcs = Vec::new(aim.alloc);
+    source.add_arcs(source.first_depth(), 0, &mut arcs)?;
+    renumber(&mut arcs, numbers.as_slice());
+    Ok(arcs)
 }

@@ -22,6 +22,7 @@
 #![tactic(auto)]
 
 mod adding;
+mod aim;
 mod claims;
 mod diagrams;
 mod drafting;

@@ -324,10 +324,15 @@ impl<'b> RowSource for Page<'b> {
         })
     }
 
-    fn arcs(&self, alloc: Global, depth: usize, node: usize) -> Result<Vec<CoverArc>, OutOfMemory> {
+    fn add_arcs(
+        &self,
+        depth: usize,
+        node: usize,
+        arcs: &mut Vec<CoverArc>,
+    ) -> Result<(), OutOfMemory> {
         match self.node(depth, node) {
-            None => Ok(Vec::new(alloc)),
-            Some(node) => node.arcs.to_vec(alloc),
+            None => Ok(()),
+            Some(node) => arcs.extend_from_slice(node.arcs),
         }
     }
 

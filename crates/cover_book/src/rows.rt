@@ -78,12 +78,18 @@ pub(crate) fn claim_of<D: ShownDiagram>(
     }
 }
 
+/// How a node becomes a row: whether its suffix counts, and whether the row has arcs.
+#[derive(Clone, Copy)]
+pub(crate) struct RowForm {
+    deep: bool,
+    has_arcs: bool,
+}
+
 /// The row of a node, with or without arcs.
 pub(crate) fn row_with<D: ShownDiagram>(
     alloc: Global,
     claim: Option<i64>,
-    deep: bool,
-    has_arcs: bool,
+    form: RowForm,
     diagram: &D,
     depth: usize,
     node: usize,
@@ -91,12 +97,12 @@ pub(crate) fn row_with<D: ShownDiagram>(
 ) -> Result<DraftRow, OutOfMemory>
     requires first { (D.layers diagram.now).first ≤ depth }
     requires place { IsSome (node_at (D.layers diagram.now) depth node) }
-    ensures { IfOk result (λ row. option_map (row_with claim deep has_arcs before) (node_at (D.layers diagram.now) depth node) ≡ Some row) }
+    ensures { IfOk result (λ row. option_map (row_with claim form.deep form.has_arcs before) (node_at (D.layers diagram.now) depth node) ≡ Some row) }
 {
-    let bound = claim_of(claim, deep, diagram, depth, node);
+    let bound = claim_of(claim, form.deep, diagram, depth, node);
     let words = diagram.row(depth, node).to_vec(alloc)?;
     let mut arcs = None;
-    if has_arcs {
+    if form.has_arcs {
         arcs = Some(arcs_of(alloc, diagram, depth, node, before)?);
     }
     Ok(DraftRow { bound, words, arcs })
@@ -173,5 +179,6 @@ pub(crate) fn row_for<M: DpModel, D: ShownDiagram>(
 {
     let deep = is_deep(diagram.first_reduced(), depth);
     let has_arcs = has_arcs(model, claim, diagram, depth, node);
-    row_with(alloc, claim, deep, has_arcs, diagram, depth, node, before)
+    let form = RowForm { deep, has_arcs };
+    row_with(alloc, claim, form, diagram, depth, node, before)
 }

@@ -1,13 +1,14 @@
 //! Rows that serve others of their layer: an arc to a row may lead to any row whose bound, lifted by the gap to it, is at most its own.
 
-ghost use Rattle.std.specs.Prelude.{◌≡◌, ◌<◌, ◌≤◌, [], length, IfSome};
+ghost use Rattle.std.specs.Prelude.{◌≡◌, ◌<◌, ◌≤◌, length, IfOk, IfSome};
 ghost use Rattle.dp_model.specs.Gaps.{IsStateOf};
 ghost use Rattle.dp_model.specs.Lists.{Each};
-ghost use Rattle.cover_book.specs.Servers.{AreServers, IsServer};
+ghost use Rattle.cover_book.specs.Servers.{IsServer};
 
 use bound_cover::is_state_row;
 use dp_model::{DpModel, OutOfMemory};
 use std::alloc::Global;
+use std::marker::Model;
 
 /// A row that may serve others.
 #[derive(Debug, Drop)]
@@ -18,24 +19,27 @@ pub(crate) struct Server {
     pub(crate) number: u32,
 }
 
-/// Rows of a layer that serve others: at most this many, but one at least, those with the least bounds, and of those with the greatest
-/// ranks.
-#[derive(Debug, Drop)]
-pub(crate) struct Servers {
+/// Rows of a layer of a problem that serve others: at most this many, but one at least, those with the least bounds, and of those with
+/// the greatest ranks.
+#[derive(Drop)]
+pub(crate) struct Servers<'m, M: DpModel> {
+    model: &'m M,
+    depth: usize,
     most: usize,
-    pub(crate) list: Vec<Server>,
+    list: Vec<Server>,
 }
 
-impl Servers {
-    /// No rows, of at most this many. It takes no memory.
-    pub(crate) fn new(alloc: Global, most: usize) -> Servers
-        ensures { result.list.items ≡ [] }
-    {
-        Servers {
-            most,
-            list: Vec::new(alloc),
-        }
-    }
+impl<'m, M: DpModel> Model for Servers<'m, M> {
+    ghost use Rattle.std.specs.Prelude.{ℕ, ◌≤◌};
+    ghost use Rattle.dp_model.specs.Lists.{Each};
+    ghost use Rattle.cover_book.specs.Servers.{IsServer};
+
+    ghost Value = { ℕ };
+
+    ghost view = { λ s. s.depth };
+
+    ghost invariant = { λ s. (s.depth ≤ (M.meaning (M.numbers s.model.now)).vars)
+        × Each (IsServer (M.meaning (M.numbers s.model.now)) s.depth) s.list.items };
 }
 
 /// The greatest gap at which a row with the one bound serves a row with the other; none where no gap does.
@@ -117,26 +121,27 @@ fn place_of_weakest(servers: &[Server]) -> usize
     weakest
 }
 
-/// Puts in a row that serves. Where there are enough of them, it takes the place of the weakest one, or is left out.
+/// Puts in a row that serves. Where there are as many as there may be, it takes the place of the weakest one, or is left out.
 fn put_server<M: DpModel>(
     _model: &M,
     _k: usize,
     server: Server,
-    servers: &mut Servers,
+    most: usize,
+    servers: &mut Vec<Server>,
 ) -> Result<(), OutOfMemory>
-    requires servers { AreServers (M.meaning (M.numbers _model.now)) _k servers.old }
+    requires servers { Each (IsServer (M.meaning (M.numbers _model.now)) _k) servers.old.items }
     requires server { IsServer (M.meaning (M.numbers _model.now)) _k server }
-    ensures { AreServers (M.meaning (M.numbers _model.now)) _k servers.new }
+    ensures { Each (IsServer (M.meaning (M.numbers _model.now)) _k) servers.new.items }
 {
-    let count = servers.list.len();
-    if count == 0 || count < servers.most {
-        servers.list.reserve(1)?;
-        servers.list.push_reserved(server);
+    let count = servers.len();
+    if count == 0 || count < most {
+        servers.reserve(1)?;
+        servers.push_reserved(server);
         return Ok(());
     }
-    let place = place_of_weakest(servers.list.as_slice());
-    if is_stronger(server.rank, server.bound, &servers.list[place]) {
-        servers.list[place] = server;
+    let place = place_of_weakest(servers.as_slice());
+    if is_stronger(server.rank, server.bound, &servers[place]) {
+        servers[place] = server;
     }
     Ok(())
 }
@@ -153,89 +158,94 @@ pub(crate) fn rank_of<M: DpModel>(model: &M, k: usize, words: &[i64]) -> Option<
     }
 }
 
-/// Lets a row with this rank serve, under its number.
-fn join_servers<M: DpModel>(
-    alloc: Global,
-    model: &M,
-    k: usize,
-    words: &[i64],
-    rank: i64,
-    bound: Option<i64>,
-    number: u32,
-    servers: &mut Servers,
-) -> Result<(), OutOfMemory>
-    requires servers { AreServers (M.meaning (M.numbers model.now)) k servers.old }
-    requires state { IsStateOf (M.meaning (M.numbers model.now)) k words.now }
-    requires rank { rank ≡ (M.meaning (M.numbers model.now)).rank k words.now }
-    ensures { AreServers (M.meaning (M.numbers model.now)) k servers.new }
-{
-    let server = Server {
-        words: words.to_vec(alloc)?,
-        rank,
-        bound,
-        number,
-    };
-    put_server(model, k, server, servers)
-}
-
-/// Lets a row serve, under its number, where it is a state of the layer.
-pub(crate) fn add_server<M: DpModel>(
-    alloc: Global,
-    model: &M,
-    k: usize,
-    words: &[i64],
-    bound: Option<i64>,
-    number: u32,
-    servers: &mut Servers,
-) -> Result<(), OutOfMemory>
-    requires layer { k ≤ (M.meaning (M.numbers model.now)).vars }
-    requires servers { AreServers (M.meaning (M.numbers model.now)) k servers.old }
-    ensures { AreServers (M.meaning (M.numbers model.now)) k servers.new }
-{
-    match rank_of(model, k, words) {
-        None => Ok(()),
-        Some(rank) => join_servers(alloc, model, k, words, rank, bound, number, servers),
+impl Server {
+    /// A row with this rank, which is copied.
+    fn of(
+        alloc: Global,
+        words: &[i64],
+        rank: i64,
+        bound: Option<i64>,
+        number: u32,
+    ) -> Result<Server, OutOfMemory>
+        ensures words { IfOk result (λ server. server.words.items ≡ words.now) }
+        ensures rank { IfOk result (λ server. server.rank ≡ rank) }
+    {
+        Ok(Server {
+            words: words.to_vec(alloc)?,
+            rank,
+            bound,
+            number,
+        })
     }
 }
 
-/// The number of a row that serves another one of its layer; none where there is none.
-pub(crate) fn server_of<M: DpModel>(
-    model: &M,
-    k: usize,
-    words: &[i64],
-    bound: Option<i64>,
-    servers: &Servers,
-) -> Option<u32>
-    requires layer { k ≤ (M.meaning (M.numbers model.now)).vars }
-    requires servers { AreServers (M.meaning (M.numbers model.now)) k servers.now }
-{
-    let rank = rank_of(model, k, words)?;
-    number_of_server(model, k, servers.list.as_slice(), words, rank, bound)
-}
-
-/// The number of a row that serves another one of its layer. Where there is none, the other one joins those that serve, under its own
-/// number.
-pub(crate) fn serve<M: DpModel>(
-    alloc: Global,
-    model: &M,
-    k: usize,
-    words: &[i64],
-    bound: Option<i64>,
-    number: u32,
-    servers: &mut Servers,
-) -> Result<Option<u32>, OutOfMemory>
-    requires layer { k ≤ (M.meaning (M.numbers model.now)).vars }
-    requires servers { AreServers (M.meaning (M.numbers model.now)) k servers.old }
-    ensures { AreServers (M.meaning (M.numbers model.now)) k servers.new }
-{
-    let Some(rank) = rank_of(model, k, words) else {
-        return Ok(None);
-    };
-    let found = number_of_server(model, k, servers.list.as_slice(), words, rank, bound);
-    if found.is_none() {
-        join_servers(alloc, model, k, words, rank, bound, number, servers)?;
+impl<'m, M: DpModel> Servers<'m, M> {
+    /// No rows of a layer, and later at most this many. It takes no memory.
+    pub(crate) fn new(alloc: Global, model: &'m M, depth: usize, most: usize) -> Servers<'m, M>
+        requires { depth ≤ (M.meaning (M.numbers model.now)).vars }
+    {
+        Servers {
+            model,
+            depth,
+            most,
+            list: Vec::new(alloc),
+        }
     }
-    Ok(found)
+
+    /// Whether a row with this rank would be put in: where there are fewer than there may be, or where it is stronger than the weakest.
+    fn wants(&self, rank: i64, bound: Option<i64>) -> bool {
+        let servers = self.list.as_slice();
+        if servers.is_empty() || servers.len() < self.most {
+            return true;
+        }
+        is_stronger(rank, bound, &servers[place_of_weakest(servers)])
+    }
+
+    /// Lets a row serve, under its number, where it is a state of the layer.
+    pub(crate) fn add(
+        &mut self,
+        alloc: Global,
+        words: &[i64],
+        bound: Option<i64>,
+        number: u32,
+    ) -> Result<(), OutOfMemory> {
+        let Some(rank) = rank_of(self.model, self.depth, words) else {
+            return Ok(());
+        };
+        if !self.wants(rank, bound) {
+            return Ok(());
+        }
+        let server = Server::of(alloc, words, rank, bound, number)?;
+        put_server(self.model, self.depth, server, self.most, &mut self.list)
+    }
+
+    /// The number of a row that serves another one of its layer; none where there is none.
+    pub(crate) fn server_of(&self, words: &[i64], bound: Option<i64>) -> Option<u32> {
+        let rank = rank_of(self.model, self.depth, words)?;
+        let servers = self.list.as_slice();
+        number_of_server(self.model, self.depth, servers, words, rank, bound)
+    }
+
+    /// The number of a row that serves another one of its layer. Where there is none, the other one joins those that serve, under its
+    /// own number.
+    pub(crate) fn serve(
+        &mut self,
+        alloc: Global,
+        words: &[i64],
+        bound: Option<i64>,
+        number: u32,
+    ) -> Result<Option<u32>, OutOfMemory> {
+        let Some(rank) = rank_of(self.model, self.depth, words) else {
+            return Ok(None);
+        };
+        let servers = self.list.as_slice();
+        let found = number_of_server(self.model, self.depth, servers, words, rank, bound);
+        if found.is_none() && self.wants(rank, bound) {
+            let server = Server::of(alloc, words, rank, bound, number)?;
+            put_server(self.model, self.depth, server, self.most, &mut self.list)?;
+        }
+        Ok(found)
+    }
 }
 
 /// Whether a row with a bound serves another one of its layer.

@@ -55,8 +55,13 @@ pub(crate) trait RowSource {
     fn row(&self, claim: Option<i64>, depth: usize, node: usize) -> Option<NodeRow<'_>>
         requires { depth < 2 ^ 32 };
 
-    /// The arcs of a node, whose targets are places in the next layer.
-    fn arcs(&self, alloc: Global, depth: usize, node: usize) -> Result<Vec<CoverArc>, OutOfMemory>;
+    /// Puts the arcs of a node, whose targets are places in the next layer, after those that are there.
+    fn add_arcs(
+        &self,
+        depth: usize,
+        node: usize,
+        arcs: &mut Vec<CoverArc>,
+    ) -> Result<(), OutOfMemory>;
 
     /// What a node waits for; none where the diagram does not tell it.
     fn wait(&self, alloc: Global, depth: usize, node: usize) -> Result<Option<Wait>, OutOfMemory>;
@@ -86,6 +91,20 @@ fn below_of(claim: Option<i64>, diagram: &Diagram, depth: usize, node: usize) ->
         return Below::Waits;
     }
     Below::Arcs
+}
+
+/// Puts the arcs of a node after those that are there.
+fn add_arcs(
+    diagram: &Diagram,
+    depth: usize,
+    node: usize,
+    arcs: &mut Vec<CoverArc>,
+) -> Result<(), OutOfMemory>
+    requires first { (layers_of diagram.now).first ≤ depth }
+    requires place { IsSome (node_at (layers_of diagram.now) depth node) }
+{
+    let own = arcs_of(*arcs.allocator(), diagram, depth, node, 0)?;
+    arcs.extend_from_slice(own.as_slice())
 }
 
 impl<'w> RowSource for Diagram<'w> {
@@ -121,11 +140,16 @@ impl<'w> RowSource for Diagram<'w> {
         })
     }
 
-    fn arcs(&self, alloc: Global, depth: usize, node: usize) -> Result<Vec<CoverArc>, OutOfMemory> {
-        if !has_node(self, depth, node) {
-            return Ok(Vec::new(alloc));
+    fn add_arcs(
+        &self,
+        depth: usize,
+        node: usize,
+        arcs: &mut Vec<CoverArc>,
+    ) -> Result<(), OutOfMemory> {
+        if has_node(self, depth, node) {
+            add_arcs(self, depth, node, arcs)?;
         }
-        arcs_of(alloc, self, depth, node, 0)
+        Ok(())
     }
 
     fn wait(&self, alloc: Global, depth: usize, node: usize) -> Result<Option<Wait>, OutOfMemory> {

@@ -6,14 +6,12 @@ ghost use Rattle.std.specs.Prelude.{◌≤◌, IfOk, IfSome, OnOk};
 ghost use Rattle.dp_model.specs.Subproblem.{IsOwn};
 ghost use Rattle.layer_build.specs.Layers.{IsPreparedFor};
 ghost use Rattle.bound_cover.specs.Clamping.{AreWritable};
-ghost use Rattle.cover_book.specs.Servers.{AreServers};
 
+use crate::aim::Aim;
 use crate::claims::rest_of;
-use crate::gathering::{
-    Gathered, Waiter, bound_at, gather, last_count, mark, push_row, renumbered,
-};
+use crate::gathering::{Gathered, Waiter, bound_at, gather, last_count, mark, push_row, renumber};
 use crate::pages::{Page, Pages};
-use crate::serving::{Servers, add_server, is_served, rank_of, server_of};
+use crate::serving::{Servers, is_served, rank_of};
 use crate::sources::{RowSource, Wait};
 use crate::whole::space_for;
 use bound_cover::{Cover, CoverArc};
@@ -27,28 +25,37 @@ use std::mem;
 /// How many kept rows of a layer serve others.
 const MOST_SERVERS: usize = 32;
 
+/// What supplies diagrams: the pages of books, and a workspace for those that no page has.
+#[derive(Drop)]
+struct Supply<'b> {
+    pages: Pages<'b>,
+    space: Workspace,
+}
+
 /// The layers of an exploration before it begins: one row for the root, which waits.
-fn start_layers<M: DpModel>(
-    alloc: Global,
-    model: &M,
-    claim: Option<i64>,
-) -> Result<Vec<Gathered>, OutOfMemory> {
-    let mut words = vec![in alloc; 0i64; model.words()]?;
-    model.root(&mut words);
-    let bound = bound_at(model, 0, rest_of(claim, model.root_value()));
-    let mut top = Gathered::new(alloc);
-    push_row(bound, words.as_slice(), None, &mut top.rows)?;
-    let root = Wait {
-        decisions: Vec::new(alloc),
-        ticket: Some(0),
-    };
-    top.wait(0, root)?;
-    let mut layers = Vec::new(alloc);
-    layers.push(top)?;
-    'layers: for _ in 0..model.vars() {
-        layers.push(Gathered::new(alloc))?;
+fn start_layers<'m, M: DpModel>(aim: &Aim<'m, M>) -> Result<Vec<Gathered<'m, M>>, OutOfMemory> {
+    let mut layers = Vec::new(aim.alloc);
+    'layers: for depth in 0..aim.model.vars() + 1 {
+        layers.push(Gathered::new(aim.alloc, aim.model, depth))?;
+    }
+    if let Some(top) = layers.get_mut(0) {
+        start_layer(aim, top)?;
     }
     Ok(layers)
+}
+
+/// Puts in the row for the root, which waits.
+fn start_layer<M: DpModel>(aim: &Aim<M>, top: &mut Gathered<M>) -> Result<(), OutOfMemory> {
+    let model = aim.model;
+    let mut words = vec![in aim.alloc; 0i64; model.words()]?;
+    model.root(&mut words);
+    let bound = bound_at(model, 0, rest_of(aim.claim, model.root_value()));
+    push_row(bound, words.as_slice(), None, &mut top.rows)?;
+    let root = Wait {
+        decisions: Vec::new(aim.alloc),
+        ticket: Some(0),
+    };
+    top.wait(0, root)
 }
 
 /// A row that a layer needs. In the order of such rows the least bound comes first, of those a row that has arcs, and then the greatest
@@ -125,10 +132,42 @@ struct Thinned {
 /// The kept rows of a layer as they come, those of them that serve others, and for each page the number of the row that its diagram
 /// stands below.
 #[derive(Drop)]
-struct Kept {
+struct Kept<'m, M: DpModel> {
     rows: Cover,
-    servers: Servers,
+    servers: Servers<'m, M>,
     by_page: Vec<Option<u32>>,
+}
+
+impl<'m, M: DpModel> Kept<'m, M> {
+    /// Keeps a row, with arcs or none, which serves others from then on, and gives its number.
+    fn push(
+        &mut self,
+        alloc: Global,
+        words: &[i64],
+        bound: Option<i64>,
+        arcs: Option<&[CoverArc]>,
+    ) -> Result<u32, OutOfMemory> {
+        let number = last_count(&self.rows);
+        push_row(bound, words, arcs, &mut self.rows)?;
+        self.servers.add(alloc, words, bound, number)?;
+        Ok(number)
+    }
+
+    /// The number of a kept row that serves this one. Where there is none, this one is kept.
+    fn put(
+        &mut self,
+        alloc: Global,
+        words: &[i64],
+        bound: Option<i64>,
+        arcs: Option<&[CoverArc]>,
+    ) -> Result<u32, OutOfMemory> {
+        let number = last_count(&self.rows);
+        if let Some(server) = self.servers.serve(alloc, words, bound, number)? {
+            return Ok(server);
+        }
+        push_row(bound, words, arcs, &mut self.rows)?;
+        Ok(number)
+    }
 }
 
 /// A row of a layer that waits.
@@ -174,50 +213,42 @@ fn sub_of<M: DpModel>(
 
 /// The arcs of a row that waits, from its diagram, whose other rows go into the layers; none where its decisions are no prefix.
 fn arcs_by_diagram<M: DpModel>(
-    alloc: Global,
-    model: &M,
-    claim: Option<i64>,
+    aim: &Aim<M>,
     decisions: &[u32],
     space: &mut Workspace,
-    layers: &mut [Gathered],
+    layers: &mut [Gathered<M>],
 ) -> Result<Option<Vec<CoverArc>>, OutOfMemory>
-    requires { IsPreparedFor (M.meaning (M.numbers model.now)) space.old }
-    ensures { IsPreparedFor (M.meaning (M.numbers model.now)) space.new }
+    requires { IsPreparedFor (M.meaning (M.numbers aim.now.model.now)) space.old }
+    ensures { IsPreparedFor (M.meaning (M.numbers aim.now.model.now)) space.new }
 {
-    let Some(sub) = sub_of(alloc, model, decisions)? else {
+    let Some(sub) = sub_of(aim.alloc, aim.model, decisions)? else {
         return Ok(None);
     };
-    let diagram = relaxed(space, model, &sub, claim);
-    let arcs = gather(alloc, model, claim, &diagram, layers)?;
+    let diagram = relaxed(space, aim.model, &sub, aim.claim);
+    let arcs = gather(aim, &diagram, layers)?;
     Ok(Some(arcs))
 }
 
 /// The number of the row that a page's diagram stands below, which is kept with its arcs where it is not yet there.
 fn keep_page<M: DpModel>(
-    alloc: Global,
-    model: &M,
-    claim: Option<i64>,
+    aim: &Aim<M>,
     k: usize,
     number: usize,
     page: &Page,
-    layers: &mut [Gathered],
-    kept: &mut Kept,
+    layers: &mut [Gathered<M>],
+    kept: &mut Kept<M>,
 ) -> Result<Option<u32>, OutOfMemory>
-    requires layer { k ≤ (M.meaning (M.numbers model.now)).vars }
-    requires servers { AreServers (M.meaning (M.numbers model.now)) k kept.old.servers }
-    ensures { AreServers (M.meaning (M.numbers model.now)) k kept.new.servers }
+    requires { k ≤ (M.meaning (M.numbers aim.now.model.now)).vars }
 {
     if let Some(Some(place)) = kept.by_page.get(number) {
         return Ok(Some(*place));
     }
-    let Some(top) = page.row(claim, k, 0) else {
+    let Some(top) = page.row(aim.claim, k, 0) else {
         return Ok(None);
     };
-    let bound = bound_at(model, k, top.bound);
-    let arcs = gather(alloc, model, claim, page, layers)?;
-    let place = last_count(&kept.rows);
-    push_row(bound, top.words, Some(arcs.as_slice()), &mut kept.rows)?;
-    add_server(alloc, model, k, top.words, bound, place, &mut kept.servers)?;
+    let bound = bound_at(aim.model, k, top.bound);
+    let arcs = gather(aim, page, layers)?;
+    let place = kept.push(aim.alloc, top.words, bound, Some(arcs.as_slice()))?;
     if let Some(cell) = kept.by_page.get_mut(number) {
         *cell = Some(place);
     }
@@ -226,23 +257,22 @@ fn keep_page<M: DpModel>(
 
 /// Whether the row that a page's diagram stands below serves another one.
 fn page_serves<M: DpModel>(
-    model: &M,
-    claim: Option<i64>,
+    aim: &Aim<M>,
     k: usize,
     page: &Page,
     words: &[i64],
     bound: Option<i64>,
 ) -> bool
-    requires { k ≤ (M.meaning (M.numbers model.now)).vars }
+    requires { k ≤ (M.meaning (M.numbers aim.now.model.now)).vars }
 {
     if page.first_depth() != k {
         return false;
     }
-    match page.row(claim, k, 0) {
+    match page.row(aim.claim, k, 0) {
         None => false,
         Some(top) => {
-            let own = bound_at(model, k, top.bound);
-            is_served(model, k, top.words, own, words, bound)
+            let own = bound_at(aim.model, k, top.bound);
+            is_served(aim.model, k, top.words, own, words, bound)
         }
     }
 }
@@ -250,18 +280,14 @@ fn page_serves<M: DpModel>(
 /// The number of the kept row that serves one that waits, where that is the row of a page; none where there is no such page, or where
 /// its row does not serve.
 fn keep_by_ticket<M: DpModel>(
-    alloc: Global,
-    model: &M,
-    claim: Option<i64>,
+    aim: &Aim<M>,
     k: usize,
     row: OpenRow,
     pages: &Pages,
-    layers: &mut [Gathered],
-    kept: &mut Kept,
+    layers: &mut [Gathered<M>],
+    kept: &mut Kept<M>,
 ) -> Result<Option<u32>, OutOfMemory>
-    requires layer { k ≤ (M.meaning (M.numbers model.now)).vars }
-    requires servers { AreServers (M.meaning (M.numbers model.now)) k kept.old.servers }
-    ensures { AreServers (M.meaning (M.numbers model.now)) k kept.new.servers }
+    requires { k ≤ (M.meaning (M.numbers aim.now.model.now)).vars }
 {
     let Some(ticket) = row.wait.ticket else {
         return Ok(None);
@@ -269,97 +295,67 @@ fn keep_by_ticket<M: DpModel>(
     let Some(number) = pages.find(ticket) else {
         return Ok(None);
     };
-    let Some(page) = pages.page(alloc, number)? else {
+    let Some(page) = pages.page(aim.alloc, number)? else {
         return Ok(None);
     };
-    if !page_serves(model, claim, k, &page, row.words, row.bound) {
+    if !page_serves(aim, k, &page, row.words, row.bound) {
         return Ok(None);
     }
-    keep_page(alloc, model, claim, k, number, &page, layers, kept)
+    keep_page(aim, k, number, &page, layers, kept)
 }
 
 /// The number of the kept row that serves one that waits: that of a page, or its own, which is kept with the arcs of a diagram.
 fn keep_waiting<M: DpModel>(
-    alloc: Global,
-    model: &M,
-    claim: Option<i64>,
+    aim: &Aim<M>,
     k: usize,
     row: OpenRow,
-    pages: &Pages,
-    space: &mut Workspace,
-    layers: &mut [Gathered],
-    kept: &mut Kept,
+    supply: &mut Supply,
+    layers: &mut [Gathered<M>],
+    kept: &mut Kept<M>,
 ) -> Result<u32, OutOfMemory>
-    requires layer { k ≤ (M.meaning (M.numbers model.now)).vars }
-    requires prepared { IsPreparedFor (M.meaning (M.numbers model.now)) space.old }
-    requires servers { AreServers (M.meaning (M.numbers model.now)) k kept.old.servers }
-    ensures prepared { IsPreparedFor (M.meaning (M.numbers model.now)) space.new }
-    ensures servers { AreServers (M.meaning (M.numbers model.now)) k kept.new.servers }
+    requires layer { k ≤ (M.meaning (M.numbers aim.now.model.now)).vars }
+    requires prepared { IsPreparedFor (M.meaning (M.numbers aim.now.model.now)) supply.old.space }
+    ensures { IsPreparedFor (M.meaning (M.numbers aim.now.model.now)) supply.new.space }
 {
-    if let Some(number) = keep_by_ticket(alloc, model, claim, k, row, pages, layers, kept)? {
+    if let Some(number) = keep_by_ticket(aim, k, row, &supply.pages, layers, kept)? {
         return Ok(number);
     }
-    let number = last_count(&kept.rows);
     let decisions = row.wait.decisions.as_slice();
-    match arcs_by_diagram(alloc, model, claim, decisions, space, layers)? {
-        None => push_row(row.bound, row.words, None, &mut kept.rows)?,
-        Some(arcs) => push_row(row.bound, row.words, Some(arcs.as_slice()), &mut kept.rows)?,
+    match arcs_by_diagram(aim, decisions, &mut supply.space, layers)? {
+        None => kept.push(aim.alloc, row.words, row.bound, None),
+        Some(arcs) => kept.push(aim.alloc, row.words, row.bound, Some(arcs.as_slice())),
     }
-    add_server(
-        alloc,
-        model,
-        k,
-        row.words,
-        row.bound,
-        number,
-        &mut kept.servers,
-    )?;
-    Ok(number)
 }
 
 /// The number of a needed row of a layer: that of a kept one that serves it, or its own, with which it is kept.
 fn keep_row<M: DpModel>(
-    alloc: Global,
-    model: &M,
-    claim: Option<i64>,
+    aim: &Aim<M>,
     k: usize,
     place: u32,
-    layer: &Gathered,
-    pages: &Pages,
-    space: &mut Workspace,
-    layers: &mut [Gathered],
-    kept: &mut Kept,
+    layer: &Gathered<M>,
+    supply: &mut Supply,
+    layers: &mut [Gathered<M>],
+    kept: &mut Kept<M>,
 ) -> Result<u32, OutOfMemory>
-    requires layer { k ≤ (M.meaning (M.numbers model.now)).vars }
-    requires prepared { IsPreparedFor (M.meaning (M.numbers model.now)) space.old }
-    requires servers { AreServers (M.meaning (M.numbers model.now)) k kept.old.servers }
-    ensures prepared { IsPreparedFor (M.meaning (M.numbers model.now)) space.new }
-    ensures servers { AreServers (M.meaning (M.numbers model.now)) k kept.new.servers }
+    requires layer { k ≤ (M.meaning (M.numbers aim.now.model.now)).vars }
+    requires prepared { IsPreparedFor (M.meaning (M.numbers aim.now.model.now)) supply.old.space }
+    ensures { IsPreparedFor (M.meaning (M.numbers aim.now.model.now)) supply.new.space }
 {
-    let number = last_count(&kept.rows);
     let Some(row) = layer.rows.row(0, place as usize) else {
-        return Ok(number);
+        return Ok(0);
     };
-    if let Some(server) = server_of(model, k, row.words, row.bound, &kept.servers) {
+    if row.has_arcs {
+        return kept.put(aim.alloc, row.words, row.bound, Some(row.arcs));
+    }
+    let Some(wait) = wait_of(layer.waiting.as_slice(), place) else {
+        return kept.put(aim.alloc, row.words, row.bound, None);
+    };
+    if let Some(server) = kept.servers.server_of(row.words, row.bound) {
         return Ok(server);
     }
-    if let Some(wait) = wait_of(layer.waiting.as_slice(), place) {
-        let (words, bound) = (row.words, row.bound);
-        let row = OpenRow { words, bound, wait };
-        return keep_waiting(alloc, model, claim, k, row, pages, space, layers, kept);
-    }
-    let arcs = if row.has_arcs { Some(row.arcs) } else { None };
-    push_row(row.bound, row.words, arcs, &mut kept.rows)?;
-    add_server(
-        alloc,
-        model,
-        k,
-        row.words,
-        row.bound,
-        number,
-        &mut kept.servers,
-    )?;
-    Ok(number)
+    let (words, bound) = (row.words, row.bound);
+    let row = OpenRow { words, bound, wait };
+    keep_waiting(aim, k, row, supply, layers, kept)
 }
 
 /// Writes the number of a row.
@@ -370,8 +366,14 @@ fn set_number(numbers: &mut [u32], place: u32, number: u32) {
 }
 
 /// Takes the rows of a layer out of the layers.
-fn take_layer(alloc: Global, k: usize, layers: &mut [Gathered]) -> Gathered {
-    let layer = Gathered::new(alloc);
+fn take_layer<'m, M: DpModel>(
+    aim: &Aim<'m, M>,
+    k: usize,
+    layers: &mut [Gathered<'m, M>],
+) -> Gathered<'m, M>
+    requires { k ≤ (M.meaning (M.numbers aim.now.model.now)).vars }
+{
+    let layer = Gathered::new(aim.alloc, aim.model, k);
     match layers.get_mut(k) {
         None => layer,
         Some(here) => mem::replace(here, layer),
@@ -379,46 +381,42 @@ fn take_layer(alloc: Global, k: usize, layers: &mut [Gathered]) -> Gathered {
 }
 
 /// Thins a layer: of the marked rows it keeps each that no kept one serves, and puts in the diagrams of those that wait.
-fn thin_layer<M: DpModel>(
-    alloc: Global,
-    model: &M,
-    claim: Option<i64>,
+fn thin_layer<'m, M: DpModel>(
+    aim: &Aim<'m, M>,
     k: usize,
     marks: &[bool],
-    pages: &Pages,
-    space: &mut Workspace,
-    layers: &mut [Gathered],
+    supply: &mut Supply,
+    layers: &mut [Gathered<'m, M>],
 ) -> Result<Thinned, OutOfMemory>
-    requires layer { k ≤ (M.meaning (M.numbers model.now)).vars }
-    requires prepared { IsPreparedFor (M.meaning (M.numbers model.now)) space.old }
-    ensures { IsPreparedFor (M.meaning (M.numbers model.now)) space.new }
+    requires layer { k ≤ (M.meaning (M.numbers aim.now.model.now)).vars }
+    requires prepared { IsPreparedFor (M.meaning (M.numbers aim.now.model.now)) supply.old.space }
+    ensures { IsPreparedFor (M.meaning (M.numbers aim.now.model.now)) supply.new.space }
 {
-    let layer = take_layer(alloc, k, layers);
-    let needed = needed_of(alloc, model, k, &layer.rows, marks)?;
+    let alloc = aim.alloc;
+    let layer = take_layer(aim, k, layers);
+    let needed = needed_of(alloc, aim.model, k, &layer.rows, marks)?;
     let mut numbers = vec![in alloc; 0u32; layer.count() as usize]?;
     let mut kept = Kept {
         rows: Cover::new(alloc),
-        servers: Servers::new(alloc, MOST_SERVERS),
-        by_page: vec![in alloc; None; pages.len()]?,
+        servers: Servers::new(alloc, aim.model, k, MOST_SERVERS),
+        by_page: vec![in alloc; None; supply.pages.len()]?,
     };
     'needed: for i in 0..needed.len() {
         let place = needed[i].place;
-        let number = keep_row(
-            alloc, model, claim, k, place, &layer, pages, space, layers, &mut kept,
-        )?;
+        let number = keep_row(aim, k, place, &layer, supply, layers, &mut kept)?;
         set_number(&mut numbers, place, number);
     }
     let rows = kept.rows;
     Ok(Thinned { rows, numbers })
 }
 
-/// Adds a row to the cover, its arcs to the numbers of their targets.
+/// Adds a row to the cover, its arcs to the numbers of their targets. They are brought together in `spare`.
 fn write_row(
-    alloc: Global,
     bound: Option<i64>,
     words: &[i64],
     arcs: Option<&[CoverArc]>,
     numbers: &[u32],
+    spare: &mut Vec<CoverArc>,
     cover: &mut Cover,
 ) -> Result<(), OutOfMemory>
     ensures { OnOk result (AreWritable cover.old → AreWritable cover.new) }
@@ -426,8 +424,10 @@ fn write_row(
     let Some(arcs) = arcs else {
         return push_row(bound, words, None, cover);
     };
-    let arcs = renumbered(alloc, arcs, numbers)?;
-    push_row(bound, words, Some(arcs.as_slice()), cover)
+    spare.clear();
+    spare.extend_from_slice(arcs)?;
+    renumber(spare, numbers);
+    push_row(bound, words, Some(spare.as_slice()), cover)
 }
 
 /// Adds an empty layer to the cover.
@@ -448,10 +448,11 @@ fn write_rows(
     ensures { OnOk result (AreWritable cover.new) }
 {
     let count = last_count(above) as usize;
+    let mut spare = Vec::new(alloc);
     'rows: for i in 0..count {
         if let Some(row) = above.row(0, i) {
             let arcs = if row.has_arcs { Some(row.arcs) } else { None };
-            write_row(alloc, row.bound, row.words, arcs, numbers, cover)?;
+            write_row(row.bound, row.words, arcs, numbers, &mut spare, cover)?;
         }
     }
     Ok(())
@@ -472,40 +473,28 @@ fn write_layer(
 }
 
 /// Takes the rows that a layer needs out of the layers, thins them, and writes the layer above them.
-fn next_layer<M: DpModel>(
-    alloc: Global,
-    model: &M,
-    claim: Option<i64>,
+fn next_layer<'m, M: DpModel>(
+    aim: &Aim<'m, M>,
     k: usize,
     above: &Cover,
-    pages: &Pages,
-    space: &mut Workspace,
-    layers: &mut [Gathered],
+    supply: &mut Supply,
+    layers: &mut [Gathered<'m, M>],
     cover: &mut Cover,
 ) -> Result<Cover, OutOfMemory>
-    requires layer { k ≤ (M.meaning (M.numbers model.now)).vars }
-    requires prepared { IsPreparedFor (M.meaning (M.numbers model.now)) space.old }
+    requires layer { k ≤ (M.meaning (M.numbers aim.now.model.now)).vars }
+    requires prepared { IsPreparedFor (M.meaning (M.numbers aim.now.model.now)) supply.old.space }
     requires writable { AreWritable cover.old }
-    ensures prepared { IsPreparedFor (M.meaning (M.numbers model.now)) space.new }
+    ensures prepared { IsPreparedFor (M.meaning (M.numbers aim.now.model.now)) supply.new.space }
     ensures writable { OnOk result (AreWritable cover.new) }
 {
-    let marks = marks_of(alloc, above, count_at(layers, k))?;
-    let next = thin_layer(
-        alloc,
-        model,
-        claim,
-        k,
-        marks.as_slice(),
-        pages,
-        space,
-        layers,
-    )?;
-    write_layer(alloc, above, next.numbers.as_slice(), cover)?;
+    let marks = marks_of(aim.alloc, above, count_at(layers, k))?;
+    let next = thin_layer(aim, k, marks.as_slice(), supply, layers)?;
+    write_layer(aim.alloc, above, next.numbers.as_slice(), cover)?;
     Ok(next.rows)
 }
 
 /// How many rows the layer at a depth has, and none where there is no such layer.
-fn count_at(layers: &[Gathered], depth: usize) -> u32 {
+fn count_at<M: DpModel>(layers: &[Gathered<M>], depth: usize) -> u32 {
     match layers.get(depth) {
         None => 0,
         Some(layer) => layer.count(),
@@ -513,52 +502,36 @@ fn count_at(layers: &[Gathered], depth: usize) -> u32 {
 }
 
 /// Thins all layers after the first one, whose kept rows these are, and writes each but the last one, whose kept rows it gives.
-fn next_layers<M: DpModel>(
-    alloc: Global,
-    model: &M,
-    claim: Option<i64>,
+fn next_layers<'m, M: DpModel>(
+    aim: &Aim<'m, M>,
     first: Cover,
-    pages: &Pages,
-    space: &mut Workspace,
-    layers: &mut [Gathered],
+    supply: &mut Supply,
+    layers: &mut [Gathered<'m, M>],
     cover: &mut Cover,
 ) -> Result<Cover, OutOfMemory>
-    requires prepared { IsPreparedFor (M.meaning (M.numbers model.now)) space.old }
+    requires prepared { IsPreparedFor (M.meaning (M.numbers aim.now.model.now)) supply.old.space }
     requires writable { AreWritable cover.old }
     ensures { OnOk result (AreWritable cover.new) }
 {
     let mut above = first;
-    'layers: for k in 0..model.vars() {
-        let next = next_layer(
-            alloc,
-            model,
-            claim,
-            k + 1,
-            &above,
-            pages,
-            space,
-            layers,
-            cover,
-        )?;
+    'layers: for k in 0..aim.model.vars() {
+        let next = next_layer(aim, k + 1, &above, supply, layers, cover)?;
         above = next;
     }
     Ok(above)
 }
 
 /// The kept rows of the first layer, from which the others are thinned.
-fn first_layer<M: DpModel>(
-    alloc: Global,
-    model: &M,
-    claim: Option<i64>,
-    pages: &Pages,
-    space: &mut Workspace,
-    layers: &mut [Gathered],
+fn first_layer<'m, M: DpModel>(
+    aim: &Aim<'m, M>,
+    supply: &mut Supply,
+    layers: &mut [Gathered<'m, M>],
 ) -> Result<Cover, OutOfMemory>
-    requires { IsPreparedFor (M.meaning (M.numbers model.now)) space.old }
-    ensures { IsPreparedFor (M.meaning (M.numbers model.now)) space.new }
+    requires { IsPreparedFor (M.meaning (M.numbers aim.now.model.now)) supply.old.space }
+    ensures { IsPreparedFor (M.meaning (M.numbers aim.now.model.now)) supply.new.space }
 {
-    let top = vec![in alloc; true; 1]?;
-    let first = thin_layer(alloc, model, claim, 0, top.as_slice(), pages, space, layers)?;
+    let top = vec![in aim.alloc; true; 1]?;
+    let first = thin_layer(aim, 0, top.as_slice(), supply, layers)?;
     Ok(first.rows)
 }
 
@@ -571,21 +544,19 @@ pub(crate) fn explore_thin<M: DpModel>(
 ) -> Result<Cover, OutOfMemory>
     ensures { IfOk result (λ cover. AreWritable cover) }
 {
-    let pages = Pages::of(alloc, books)?;
-    let mut space = space_for(alloc, model)?;
-    let mut layers = start_layers(alloc, model, claim)?;
-    let first = first_layer(alloc, model, claim, &pages, &mut space, &mut layers)?;
-    let mut cover = Cover::new(alloc);
-    let last = next_layers(
+    let aim = Aim {
         alloc,
         model,
         claim,
-        first,
-        &pages,
-        &mut space,
-        &mut layers,
-        &mut cover,
-    )?;
+    };
+    let mut supply = Supply {
+        pages: Pages::of(alloc, books)?,
+        space: space_for(alloc, model)?,
+    };
+    let mut layers = start_layers(&aim)?;
+    let first = first_layer(&aim, &mut supply, &mut layers)?;
+    let mut cover = Cover::new(alloc);
+    let last = next_layers(&aim, first, &mut supply, &mut layers, &mut cover)?;
     write_layer(alloc, &last, &[], &mut cover)?;
     Ok(cover)
 }
