@@ -1,5 +1,5 @@
 -- Which snapshots are worth their bytes.
-use Rattle.std.specs.Prelude.{ℕ, ◌/◌, nat_le, Bool, ◌||◌, length, unwrap_or}
+use Rattle.std.specs.Prelude.{◌/◌, nat_le, Bool, ◌||◌, length, unwrap_or}
 use Rattle.board_laws.specs.Board.{frontier}
 use Rattle.kept_board.specs.View.{KeptView, since_of}
 use Rattle.search_workers.specs.declared.workers.worth.TheConstants.{ALWAYS_LISTED, FINISHED_FOR_EACH}

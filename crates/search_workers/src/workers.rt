@@ -6,6 +6,7 @@
 //! search is workers behind the turn, then rounds on the closed board until the search ends, so that what it gives doesn't rest on
 //! how a worker ended.
 
+mod crew;
 mod fanning;
 mod gate;
 mod holding_finish;

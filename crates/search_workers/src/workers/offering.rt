@@ -7,34 +7,32 @@ ghost use Rattle.dp_model.specs.Numbers.{OptionAtMost};
 ghost use Rattle.dp_model.specs.Reached.{reached};
 ghost use Rattle.dp_model.specs.Subproblem.{IsOwn};
 ghost use Rattle.dp_laws.specs.Children.{found_value};
+ghost use Rattle.dp_laws.specs.Diagrams.Cutsets.{found_in};
 ghost use Rattle.dp_laws.specs.Restricted.Beams.{beam, wide};
 ghost use Rattle.dp_laws.specs.Rules.Compiling.{relaxed};
 ghost use Rattle.board_laws.specs.GoodBoard.{IncumbentHolds};
-ghost use Rattle.layer_build.specs.Layers.{IsPreparedFor};
 ghost use Rattle.search_workers.specs.Branched.{AreBranched};
 ghost use Rattle.search_workers.specs.Collected.{HoldsDiagram};
 ghost use Rattle.search_workers.specs.Offered.{beam_value, found_solution};
-ghost use Rattle.search_workers.specs.Prepared.{HoldsChildren};
+ghost use Rattle.search_workers.specs.Prepared.{HasDeskRoom};
 ghost use Rattle.search_workers.specs.Ready.{IsWorker};
 ghost use Rattle.search_workers.specs.Seen.{reach_seen};
 ghost use Rattle.search_workers.specs.Taken.{taken_from};
 ghost use Rattle.search_workers.specs.Stopped.{IsLeftOut, HasLeft, WasStopped};
 
+use super::crew::Crew;
 use super::gate::{Gate, Step};
 use super::holding_improve::improve_one;
 use super::stopped::Stopped;
-use crate::parts::Parts;
+use crate::desk::Desk;
 use crate::rounds::fill_with;
 use disk::Disk;
-use dp_model::{CutKind, DpModel, Found, Sub};
-use exact_cutset::Children;
+use dp_model::{DpModel, Found};
 use kept_board::Kept;
-use layer_build::Workspace;
 use restricted_dd::compile;
-use std::alloc::Global;
 use std::sync::Wait;
 use std::thread::Threads;
-use turn::{Seat, Turn};
+use turn::Seat;
 
 /// What the restricted diagram of a subproblem leaves.
 #[derive(Clone, Copy, Debug)]
@@ -52,123 +50,131 @@ pub struct Restricted {
 ///
 /// As `improve_one` says, and then it passes no gate.
 fn offer_one<M: DpModel, D: Disk + Send, G: Gate, R: Wait>(
-    rt: &R,
-    alloc: Global,
-    turn: &Turn<Kept<M, D>>,
+    crew: &Crew<'_, M, D, G, R>,
     seat: &mut Seat<Kept<M, D>>,
-    gate: &G,
     found: Option<Found<'_>>,
     reach: Option<i64>,
 ) -> Result<Option<i64>, Stopped>
-    requires worker { IsWorker turn.now seat.old }
-    requires left { HasLeft turn.now seat.old }
-    requires reach { reach ≡ reach_seen turn.now seat.old }
-    requires held { IncumbentHolds (M.meaning (first_of turn.now).board.numbers) (found_solution found) }
-    ensures worker { IsWorker turn.now seat.new }
+    requires worker { IsWorker crew.now.turn.now seat.old }
+    requires left { HasLeft crew.now.turn.now seat.old }
+    requires reach { reach ≡ reach_seen crew.now.turn.now seat.old }
+    requires held { IncumbentHolds (M.meaning (first_of crew.now.turn.now).board.numbers) (found_solution found) }
+    ensures worker { IsWorker crew.now.turn.now seat.new }
     ensures number { seat.new.number ≡ seat.old.number }
-    ensures left { OnOk result (HasLeft turn.now seat.new) }
+    ensures left { OnOk result (HasLeft crew.now.turn.now seat.new) }
     ensures out { OnOk result (out_of seat.new ≡ out_of seat.old) }
-    ensures reach { IfOk result (λ reach. reach ≡ reach_seen turn.now seat.new) }
+    ensures reach { IfOk result (λ reach. reach ≡ reach_seen crew.now.turn.now seat.new) }
     ensures no_less { NoLess (seen_of seat.old) (seen_of seat.new) }
-    ensures found { OnOk result (OptionAtMost (found_value (found_solution found.entry)) (reach_seen turn.now seat.new)) }
+    ensures found { OnOk result (OptionAtMost (found_value (found_solution found.entry)) (reach_seen crew.now.turn.now seat.new)) }
     ensures stopped { IfErr result (λ stopped. IsLeftOut stopped (out_of seat.old) (out_of seat.new)) }
-    ensures why { IfErr result (WasStopped D.Disk M.meaning turn.now seat.old seat.new) }
+    ensures why { IfErr result (WasStopped D.Disk M.meaning crew.now.turn.now seat.old seat.new) }
 {
     let Some(found) = found else {
         return Ok(reach);
     };
-    let reach = improve_one(rt, alloc, turn, seat, found.decisions)?;
-    gate.pass(seat.number(), Step::Improved);
+    let reach = improve_one(crew.rt, crew.alloc, crew.turn, seat, found.decisions)?;
+    crew.gate.pass(seat.number(), Step::Improved);
     Ok(reach)
 }
 
-/// Compiles the restricted diagram of a subproblem outside the turn, with the reach by what the seat has seen as threshold, and offers
-/// its beam. Where the width took nothing from it, the subproblem has no children.
+/// Compiles the restricted diagram of the subproblem on the desk outside the turn, with the reach by what the seat has seen as
+/// threshold, and offers its beam. Where the width took nothing from it, the subproblem has no children.
 ///
 /// # Errors
 ///
 /// As `improve_one` says.
 pub fn restrict_one<M: DpModel, D: Disk + Send, G: Gate, R: Wait>(
-    rt: &R,
-    alloc: Global,
-    turn: &Turn<Kept<M, D>>,
+    crew: &Crew<'_, M, D, G, R>,
     seat: &mut Seat<Kept<M, D>>,
-    gate: &G,
-    space: &mut Workspace,
-    taken: &Sub,
-    model: &M,
+    desk: &mut Desk,
     reach: Option<i64>,
 ) -> Result<Restricted, Stopped>
-    requires numbers { (first_of turn.now).board.numbers ≡ M.numbers model.now }
-    requires worker { IsWorker turn.now seat.old }
-    requires left { HasLeft turn.now seat.old }
-    requires reach { reach ≡ reach_seen turn.now seat.old }
-    requires own { IsOwn (M.meaning (M.numbers model.now)) taken.now.subproblem }
-    requires prepared { IsPreparedFor (M.meaning (M.numbers model.now)) space.old }
-    ensures worker { IsWorker turn.now seat.new }
+    requires numbers { (first_of crew.now.turn.now).board.numbers ≡ M.numbers crew.now.model.now }
+    requires worker { IsWorker crew.now.turn.now seat.old }
+    requires left { HasLeft crew.now.turn.now seat.old }
+    requires reach { reach ≡ reach_seen crew.now.turn.now seat.old }
+    requires own { IsOwn (M.meaning (M.numbers crew.now.model.now)) desk.old.taken.subproblem }
+    requires room { HasDeskRoom (M.meaning (M.numbers crew.now.model.now)) (first_of crew.now.turn.now).board.board.settings.width desk.old }
+    ensures worker { IsWorker crew.now.turn.now seat.new }
     ensures number { seat.new.number ≡ seat.old.number }
-    ensures left { OnOk result (HasLeft turn.now seat.new) }
+    ensures left { OnOk result (HasLeft crew.now.turn.now seat.new) }
     ensures out { OnOk result (out_of seat.new ≡ out_of seat.old) }
-    ensures reach { IfOk result (λ r. r.reach ≡ reach_seen turn.now seat.new) }
+    ensures reach { IfOk result (λ r. r.reach ≡ reach_seen crew.now.turn.now seat.new) }
     ensures no_less { NoLess (seen_of seat.old) (seen_of seat.new) }
-    ensures reduced { IfOk result (λ r. r.reduced ≡ is_some (wide (M.meaning (M.numbers model.now)) taken.now.subproblem.decisions space.old.width reach)) }
-    ensures beam { OnOk result (OptionAtMost (beam_value (beam (M.meaning (M.numbers model.now)) taken.now.subproblem.decisions space.old.width reach)) (reach_seen turn.now seat.new)) }
-    ensures whole { IfOk result (λ r. r.reduced ≡ false → AreBranched (M.meaning (M.numbers model.now)) (first_of turn.now).board.board.settings.width (reach_seen turn.now seat.new) taken.now.subproblem.decisions reach []) }
+    ensures reduced { IfOk result (λ r. r.reduced ≡ is_some (wide (M.meaning (M.numbers crew.now.model.now)) desk.old.taken.subproblem.decisions desk.old.space.width reach)) }
+    ensures beam { OnOk result (OptionAtMost (beam_value (beam (M.meaning (M.numbers crew.now.model.now)) desk.old.taken.subproblem.decisions desk.old.space.width reach)) (reach_seen crew.now.turn.now seat.new)) }
+    ensures whole { IfOk result (λ r. r.reduced ≡ false → AreBranched (M.meaning (M.numbers crew.now.model.now)) (first_of crew.now.turn.now).board.board.settings.width (reach_seen crew.now.turn.now seat.new) desk.old.taken.subproblem.decisions reach []) }
     ensures stopped { IfErr result (λ stopped. IsLeftOut stopped (out_of seat.old) (out_of seat.new)) }
-    ensures why { IfErr result (WasStopped D.Disk M.meaning turn.now seat.old seat.new) }
-    ensures prepared { IsPreparedFor (M.meaning (M.numbers model.now)) space.new }
-    ensures width { space.new.width ≡ space.old.width }
+    ensures why { IfErr result (WasStopped D.Disk M.meaning crew.now.turn.now seat.old seat.new) }
+    ensures room { HasDeskRoom (M.meaning (M.numbers crew.now.model.now)) (first_of crew.now.turn.now).board.board.settings.width desk.new }
+    ensures width { desk.new.space.width ≡ desk.old.space.width }
+    ensures rest { desk.new ≡ record desk.old { space = desk.new.space } }
 {
-    let compiled = compile(space, model, taken, reach);
+    let compiled = compile(&mut desk.space, crew.model, &desk.taken, reach);
     let reduced = compiled.reduced;
-    let reach = offer_one(rt, alloc, turn, seat, gate, compiled.found, reach)?;
+    let reach = offer_one(crew, seat, compiled.found, reach)?;
     Ok(Restricted { reduced, reach })
 }
 
-/// Compiles the relaxed diagram of a subproblem outside the turn, with the reach by what the seat has seen as threshold and its layers
-/// in this many parts, fills `cutset` with its children, as `fill_with` does, and offers the solution that it finds.
+/// Compiles the relaxed diagram of the subproblem on the desk outside the turn, its layers in as many parts as the desk says, and fills
+/// the list of the desk with its children and with the solution that it finds, as `fill_with` does.
+pub fn fill_desk<M: DpModel, D: Disk + Send, G, R: Threads + Sync>(
+    crew: &Crew<'_, M, D, G, R>,
+    desk: &mut Desk,
+    threshold: Option<i64>,
+)
+    requires own { IsOwn (M.meaning (M.numbers crew.now.model.now)) desk.old.taken.subproblem }
+    requires room { HasDeskRoom (M.meaning (M.numbers crew.now.model.now)) (first_of crew.now.turn.now).board.board.settings.width desk.old }
+    ensures subs { desk.new.cutset.subs ≡ taken_from (M.meaning (M.numbers crew.now.model.now)) (relaxed (M.meaning (M.numbers crew.now.model.now)) (reached (M.meaning (M.numbers crew.now.model.now)) desk.old.taken.subproblem.decisions) desk.old.space.width threshold) desk.old.kind }
+    ensures found { desk.new.cutset.found ≡ found_in (M.meaning (M.numbers crew.now.model.now)) (relaxed (M.meaning (M.numbers crew.now.model.now)) (reached (M.meaning (M.numbers crew.now.model.now)) desk.old.taken.subproblem.decisions) desk.old.space.width threshold) }
+    ensures holds { HoldsDiagram (M.meaning (M.numbers crew.now.model.now)) desk.new.space desk.new.cutset }
+    ensures room { HasDeskRoom (M.meaning (M.numbers crew.now.model.now)) (first_of crew.now.turn.now).board.board.settings.width desk.new }
+    ensures rest { desk.new ≡ record desk.old { space = desk.new.space; cutset = desk.new.cutset } }
+{
+    let mut way = desk.parts.way(crew.rt, crew.alloc);
+    fill_with(
+        &mut desk.space,
+        &mut desk.cutset,
+        &desk.taken,
+        threshold,
+        desk.kind,
+        crew.model,
+        &mut way,
+    );
+}
+
+/// Compiles the relaxed diagram of the subproblem on the desk, with the reach by what the seat has seen as threshold, fills the list of
+/// the desk with its children, as `fill_desk` does, and offers the solution that it finds.
 ///
 /// # Errors
 ///
 /// As `improve_one` says.
 pub fn relax_one<M: DpModel, D: Disk + Send, G: Gate, R: Threads + Wait + Sync>(
-    rt: &R,
-    alloc: Global,
-    turn: &Turn<Kept<M, D>>,
+    crew: &Crew<'_, M, D, G, R>,
     seat: &mut Seat<Kept<M, D>>,
-    gate: &G,
-    space: &mut Workspace,
-    cutset: &mut Children,
-    taken: &Sub,
-    kind: CutKind,
-    parts: Parts,
-    model: &M,
+    desk: &mut Desk,
     reach: Option<i64>,
 ) -> Result<(), Stopped>
-    requires numbers { (first_of turn.now).board.numbers ≡ M.numbers model.now }
-    requires worker { IsWorker turn.now seat.old }
-    requires left { HasLeft turn.now seat.old }
-    requires reach { reach ≡ reach_seen turn.now seat.old }
-    requires own { IsOwn (M.meaning (M.numbers model.now)) taken.now.subproblem }
-    requires prepared { IsPreparedFor (M.meaning (M.numbers model.now)) space.old }
-    requires width { space.old.width ≡ (first_of turn.now).board.board.settings.width }
-    requires cutset { HoldsChildren (M.meaning (M.numbers model.now)) space.old.width kind cutset.old }
-    ensures worker { IsWorker turn.now seat.new }
+    requires numbers { (first_of crew.now.turn.now).board.numbers ≡ M.numbers crew.now.model.now }
+    requires worker { IsWorker crew.now.turn.now seat.old }
+    requires left { HasLeft crew.now.turn.now seat.old }
+    requires reach { reach ≡ reach_seen crew.now.turn.now seat.old }
+    requires own { IsOwn (M.meaning (M.numbers crew.now.model.now)) desk.old.taken.subproblem }
+    requires room { HasDeskRoom (M.meaning (M.numbers crew.now.model.now)) (first_of crew.now.turn.now).board.board.settings.width desk.old }
+    ensures worker { IsWorker crew.now.turn.now seat.new }
     ensures number { seat.new.number ≡ seat.old.number }
-    ensures left { OnOk result (HasLeft turn.now seat.new) }
+    ensures left { OnOk result (HasLeft crew.now.turn.now seat.new) }
     ensures out { OnOk result (out_of seat.new ≡ out_of seat.old) }
     ensures no_less { NoLess (seen_of seat.old) (seen_of seat.new) }
-    ensures subs { OnOk result (cutset.new.subs ≡ taken_from (M.meaning (M.numbers model.now)) (relaxed (M.meaning (M.numbers model.now)) (reached (M.meaning (M.numbers model.now)) taken.now.subproblem.decisions) space.old.width reach) kind) }
-    ensures branched { OnOk result (AreBranched (M.meaning (M.numbers model.now)) (first_of turn.now).board.board.settings.width (reach_seen turn.now seat.new) taken.now.subproblem.decisions reach cutset.new.subs) }
-    ensures holds { HoldsDiagram (M.meaning (M.numbers model.now)) space.new cutset.new }
+    ensures subs { OnOk result (desk.new.cutset.subs ≡ taken_from (M.meaning (M.numbers crew.now.model.now)) (relaxed (M.meaning (M.numbers crew.now.model.now)) (reached (M.meaning (M.numbers crew.now.model.now)) desk.old.taken.subproblem.decisions) desk.old.space.width reach) desk.old.kind) }
+    ensures branched { OnOk result (AreBranched (M.meaning (M.numbers crew.now.model.now)) (first_of crew.now.turn.now).board.board.settings.width (reach_seen crew.now.turn.now seat.new) desk.old.taken.subproblem.decisions reach desk.new.cutset.subs) }
+    ensures holds { HoldsDiagram (M.meaning (M.numbers crew.now.model.now)) desk.new.space desk.new.cutset }
     ensures stopped { IfErr result (λ stopped. IsLeftOut stopped (out_of seat.old) (out_of seat.new)) }
-    ensures why { IfErr result (WasStopped D.Disk M.meaning turn.now seat.old seat.new) }
-    ensures prepared { IsPreparedFor (M.meaning (M.numbers model.now)) space.new }
-    ensures width { space.new.width ≡ space.old.width }
-    ensures cutset { HoldsChildren (M.meaning (M.numbers model.now)) space.old.width kind cutset.new }
+    ensures why { IfErr result (WasStopped D.Disk M.meaning crew.now.turn.now seat.old seat.new) }
+    ensures room { HasDeskRoom (M.meaning (M.numbers crew.now.model.now)) (first_of crew.now.turn.now).board.board.settings.width desk.new }
+    ensures rest { desk.new ≡ record desk.old { space = desk.new.space; cutset = desk.new.cutset } }
 {
-    let mut way = parts.way(rt, alloc);
-    fill_with(space, cutset, taken, reach, kind, model, &mut way);
-    let _ = offer_one(rt, alloc, turn, seat, gate, cutset.found(), reach)?;
+    fill_desk(crew, desk, reach);
+    let _ = offer_one(crew, seat, desk.cutset.found(), reach)?;
     Ok(())
 }

@@ -13,17 +13,17 @@ ghost use Rattle.search_workers.specs.Seen.{reach_seen};
 ghost use Rattle.search_workers.specs.Taken.{AreOfDiagrams};
 ghost use Rattle.search_workers.specs.Stopped.{IsLeftOut, HasLeft, WasStopped, HasEndedAt};
 
+use super::crew::Crew;
 use super::gate::{Gate, Step};
 use super::holding_finish::finish_one;
 use super::holding_give_back::give_up;
 use super::holding_snapshot::snapshot_one;
 use super::holding_take::take_one;
-use super::offering::{relax_one, restrict_one};
+use super::offering::{fill_desk, relax_one, restrict_one};
 use super::stopped::Stopped;
 use crate::branched::Branched;
 use crate::collecting::collect_from;
 use crate::desk::Desk;
-use crate::rounds::fill_with;
 use board::Taken;
 use disk::Disk;
 use dp_model::DpModel;
@@ -56,8 +56,15 @@ pub fn work<M: DpModel, D: Disk + Send, G: Gate + Sync, R: Threads + Wait + Sync
     ensures number { seat.new.number ≡ seat.old.number }
     ensures prepared { IsPreparedDesk (M.meaning (M.numbers model.now)) (first_of turn.now).board.board.settings.width desk.new }
 {
+    let crew = Crew {
+        rt,
+        alloc,
+        turn,
+        model,
+        gate,
+    };
     for _ in rt.forever() {
-        if !round(rt, alloc, turn, seat, desk, model, gate) {
+        if !round(&crew, seat, desk) {
             return;
         }
     }
@@ -66,33 +73,29 @@ pub fn work<M: DpModel, D: Disk + Send, G: Gate + Sync, R: Threads + Wait + Sync
 
 /// A round. Says whether another one may follow.
 fn round<M: DpModel, D: Disk + Send, G: Gate + Sync, R: Threads + Wait + Sync>(
-    rt: &R,
-    alloc: Global,
-    turn: &Turn<Kept<M, D>>,
+    crew: &Crew<'_, M, D, G, R>,
     seat: &mut Seat<Kept<M, D>>,
     desk: &mut Desk,
-    model: &M,
-    gate: &G,
 ) -> bool
-    requires numbers { (first_of turn.now).board.numbers ≡ M.numbers model.now }
-    requires ready { IsReadySeat turn.now seat.old }
-    requires prepared { IsPreparedDesk (M.meaning (M.numbers model.now)) (first_of turn.now).board.board.settings.width desk.old }
-    ensures ready { IsReadySeat turn.now seat.new }
-    ensures ended { result ≡ false → HasEndedAt turn.now seat.new }
+    requires numbers { (first_of crew.now.turn.now).board.numbers ≡ M.numbers crew.now.model.now }
+    requires ready { IsReadySeat crew.now.turn.now seat.old }
+    requires prepared { IsPreparedDesk (M.meaning (M.numbers crew.now.model.now)) (first_of crew.now.turn.now).board.board.settings.width desk.old }
+    ensures ready { IsReadySeat crew.now.turn.now seat.new }
+    ensures ended { result ≡ false → HasEndedAt crew.now.turn.now seat.new }
     ensures number { seat.new.number ≡ seat.old.number }
-    ensures prepared { IsPreparedDesk (M.meaning (M.numbers model.now)) (first_of turn.now).board.board.settings.width desk.new }
+    ensures prepared { IsPreparedDesk (M.meaning (M.numbers crew.now.model.now)) (first_of crew.now.turn.now).board.board.settings.width desk.new }
 {
     let who = seat.number();
-    let asked = take_one(rt, turn, seat, &mut desk.taken, model);
+    let asked = take_one(crew.rt, crew.turn, seat, &mut desk.taken, crew.model);
     match asked.taken {
         Taken::Sub => {
             desk.ticket = asked.ticket;
-            gate.pass(who, Step::Taken);
-            go_on(rt, alloc, turn, seat, desk, model, gate, asked.reach)
+            crew.gate.pass(who, Step::Taken);
+            go_on(crew, seat, desk, asked.reach)
         }
         Taken::WaitForOthers => {
-            gate.pass(who, Step::Waiting);
-            turn.wait_turn(rt, seat);
+            crew.gate.pass(who, Step::Waiting);
+            crew.turn.wait_turn(crew.rt, seat);
             true
         }
         Taken::Finished | Taken::Halted(_) => false,
@@ -102,40 +105,36 @@ fn round<M: DpModel, D: Disk + Send, G: Gate + Sync, R: Threads + Wait + Sync>(
 /// The rest of a round, once a subproblem was taken: it is finished, and a snapshot is written where one is due and worth its bytes.
 /// Says whether it was finished; if not it was given back.
 fn go_on<M: DpModel, D: Disk + Send, G: Gate + Sync, R: Threads + Wait + Sync>(
-    rt: &R,
-    alloc: Global,
-    turn: &Turn<Kept<M, D>>,
+    crew: &Crew<'_, M, D, G, R>,
     seat: &mut Seat<Kept<M, D>>,
     desk: &mut Desk,
-    model: &M,
-    gate: &G,
     reach: Option<i64>,
 ) -> bool
-    requires numbers { (first_of turn.now).board.numbers ≡ M.numbers model.now }
-    requires worker { IsWorker turn.now seat.old }
-    requires left { HasLeft turn.now seat.old }
-    requires reach { reach ≡ reach_seen turn.now seat.old }
-    requires out { IsOut (M.meaning (M.numbers model.now)) (out_of seat.old) desk.old.taken.subproblem }
-    requires prepared { IsPreparedDesk (M.meaning (M.numbers model.now)) (first_of turn.now).board.board.settings.width desk.old }
-    ensures ready { IsReadySeat turn.now seat.new }
-    ensures ended { result ≡ false → HasEndedAt turn.now seat.new }
+    requires numbers { (first_of crew.now.turn.now).board.numbers ≡ M.numbers crew.now.model.now }
+    requires worker { IsWorker crew.now.turn.now seat.old }
+    requires left { HasLeft crew.now.turn.now seat.old }
+    requires reach { reach ≡ reach_seen crew.now.turn.now seat.old }
+    requires out { IsOut (M.meaning (M.numbers crew.now.model.now)) (out_of seat.old) desk.old.taken.subproblem }
+    requires prepared { IsPreparedDesk (M.meaning (M.numbers crew.now.model.now)) (first_of crew.now.turn.now).board.board.settings.width desk.old }
+    ensures ready { IsReadySeat crew.now.turn.now seat.new }
+    ensures ended { result ≡ false → HasEndedAt crew.now.turn.now seat.new }
     ensures number { seat.new.number ≡ seat.old.number }
-    ensures prepared { IsPreparedDesk (M.meaning (M.numbers model.now)) (first_of turn.now).board.board.settings.width desk.new }
+    ensures prepared { IsPreparedDesk (M.meaning (M.numbers crew.now.model.now)) (first_of crew.now.turn.now).board.board.settings.width desk.new }
 {
     let who = seat.number();
-    match expand(rt, alloc, turn, seat, desk, model, gate, reach) {
+    match expand(crew, seat, desk, reach) {
         Ok(()) => {
-            gate.pass(who, Step::Finished);
-            snapshot_one(rt, alloc, turn, seat);
+            crew.gate.pass(who, Step::Finished);
+            snapshot_one(crew.rt, crew.alloc, crew.turn, seat);
             true
         }
         Err(Stopped::GaveBack) => {
-            gate.pass(who, Step::GaveBack);
+            crew.gate.pass(who, Step::GaveBack);
             false
         }
         Err(Stopped::Refused(error)) => {
-            give_up(rt, turn, seat, error);
-            gate.pass(who, Step::GaveBack);
+            give_up(crew.rt, crew.turn, seat, error);
+            crew.gate.pass(who, Step::GaveBack);
             false
         }
     }
@@ -147,72 +146,57 @@ fn go_on<M: DpModel, D: Disk + Send, G: Gate + Sync, R: Threads + Wait + Sync>(
 ///
 /// It was given back in a holding that found the search halted for the journal, or a step was refused and it is out still.
 fn expand<M: DpModel, D: Disk + Send, G: Gate + Sync, R: Threads + Wait + Sync>(
-    rt: &R,
-    alloc: Global,
-    turn: &Turn<Kept<M, D>>,
+    crew: &Crew<'_, M, D, G, R>,
     seat: &mut Seat<Kept<M, D>>,
     desk: &mut Desk,
-    model: &M,
-    gate: &G,
     reach: Option<i64>,
 ) -> Result<(), Stopped>
-    requires numbers { (first_of turn.now).board.numbers ≡ M.numbers model.now }
-    requires worker { IsWorker turn.now seat.old }
-    requires left { HasLeft turn.now seat.old }
-    requires reach { reach ≡ reach_seen turn.now seat.old }
-    requires out { IsOut (M.meaning (M.numbers model.now)) (out_of seat.old) desk.old.taken.subproblem }
-    requires prepared { IsPreparedDesk (M.meaning (M.numbers model.now)) (first_of turn.now).board.board.settings.width desk.old }
-    ensures worker { IsWorker turn.now seat.new }
+    requires numbers { (first_of crew.now.turn.now).board.numbers ≡ M.numbers crew.now.model.now }
+    requires worker { IsWorker crew.now.turn.now seat.old }
+    requires left { HasLeft crew.now.turn.now seat.old }
+    requires reach { reach ≡ reach_seen crew.now.turn.now seat.old }
+    requires out { IsOut (M.meaning (M.numbers crew.now.model.now)) (out_of seat.old) desk.old.taken.subproblem }
+    requires prepared { IsPreparedDesk (M.meaning (M.numbers crew.now.model.now)) (first_of crew.now.turn.now).board.board.settings.width desk.old }
+    ensures worker { IsWorker crew.now.turn.now seat.new }
     ensures number { seat.new.number ≡ seat.old.number }
     ensures ok { OnOk result (out_of seat.new ≡ None) }
     ensures stopped { IfErr result (λ stopped. IsLeftOut stopped (out_of seat.old) (out_of seat.new)) }
-    ensures why { IfErr result (WasStopped D.Disk M.meaning turn.now seat.old seat.new) }
-    ensures prepared { IsPreparedDesk (M.meaning (M.numbers model.now)) (first_of turn.now).board.board.settings.width desk.new }
+    ensures why { IfErr result (WasStopped D.Disk M.meaning crew.now.turn.now seat.old seat.new) }
+    ensures prepared { IsPreparedDesk (M.meaning (M.numbers crew.now.model.now)) (first_of crew.now.turn.now).board.board.settings.width desk.new }
 {
-    let mut branched = branch(rt, alloc, turn, seat, desk, model, gate, reach)?;
+    let mut branched = branch(crew, seat, desk, reach)?;
     let finished = finish_one(
-        rt,
-        alloc,
-        turn,
+        crew.rt,
+        crew.alloc,
+        crew.turn,
         seat,
         branched.threshold,
         &mut branched.children,
         &mut desk.fates,
     );
     if finished.is_ok() && branched.on_desk {
-        collect_from(alloc, desk, model);
+        collect_from(crew.alloc, desk, crew.model);
     }
     desk.fates.clear();
     finished
 }
 
 /// Compiles the relaxed diagram of a subproblem that has no children, where the desk has a book for it. Says whether it did.
-fn fill_for_book<M: DpModel, R: Threads + Sync>(
-    rt: &R,
-    alloc: Global,
+fn fill_for_book<M: DpModel, D: Disk + Send, G, R: Threads + Sync>(
+    crew: &Crew<'_, M, D, G, R>,
     desk: &mut Desk,
     threshold: Option<i64>,
-    model: &M,
 ) -> bool
-    requires own { IsOwn (M.meaning (M.numbers model.now)) desk.old.taken.subproblem }
-    requires room { HasDeskRoom (M.meaning (M.numbers model.now)) desk.old.space.width desk.old }
-    ensures holds { result ≡ true → HoldsDiagram (M.meaning (M.numbers model.now)) desk.new.space desk.new.cutset }
-    ensures room { HasDeskRoom (M.meaning (M.numbers model.now)) desk.old.space.width desk.new }
+    requires own { IsOwn (M.meaning (M.numbers crew.now.model.now)) desk.old.taken.subproblem }
+    requires room { HasDeskRoom (M.meaning (M.numbers crew.now.model.now)) (first_of crew.now.turn.now).board.board.settings.width desk.old }
+    ensures holds { result ≡ true → HoldsDiagram (M.meaning (M.numbers crew.now.model.now)) desk.new.space desk.new.cutset }
+    ensures room { HasDeskRoom (M.meaning (M.numbers crew.now.model.now)) (first_of crew.now.turn.now).board.board.settings.width desk.new }
     ensures rest { desk.new ≡ record desk.old { space = desk.new.space; cutset = desk.new.cutset } }
 {
     if desk.book.is_none() {
         return false;
     }
-    let mut way = desk.parts.way(rt, alloc);
-    fill_with(
-        &mut desk.space,
-        &mut desk.cutset,
-        &desk.taken,
-        threshold,
-        desk.kind,
-        model,
-        &mut way,
-    );
+    fill_desk(crew, desk, threshold);
     true
 }
 
@@ -222,65 +206,38 @@ fn fill_for_book<M: DpModel, R: Threads + Sync>(
 ///
 /// As `expand` says.
 fn branch<M: DpModel, D: Disk + Send, G: Gate + Sync, R: Threads + Wait + Sync>(
-    rt: &R,
-    alloc: Global,
-    turn: &Turn<Kept<M, D>>,
+    crew: &Crew<'_, M, D, G, R>,
     seat: &mut Seat<Kept<M, D>>,
     desk: &mut Desk,
-    model: &M,
-    gate: &G,
     reach: Option<i64>,
 ) -> Result<Branched, Stopped>
-    requires numbers { (first_of turn.now).board.numbers ≡ M.numbers model.now }
-    requires worker { IsWorker turn.now seat.old }
-    requires left { HasLeft turn.now seat.old }
-    requires reach { reach ≡ reach_seen turn.now seat.old }
-    requires out { IsOut (M.meaning (M.numbers model.now)) (out_of seat.old) desk.old.taken.subproblem }
-    requires prepared { IsPreparedDesk (M.meaning (M.numbers model.now)) (first_of turn.now).board.board.settings.width desk.old }
-    ensures worker { IsWorker turn.now seat.new }
+    requires numbers { (first_of crew.now.turn.now).board.numbers ≡ M.numbers crew.now.model.now }
+    requires worker { IsWorker crew.now.turn.now seat.old }
+    requires left { HasLeft crew.now.turn.now seat.old }
+    requires reach { reach ≡ reach_seen crew.now.turn.now seat.old }
+    requires out { IsOut (M.meaning (M.numbers crew.now.model.now)) (out_of seat.old) desk.old.taken.subproblem }
+    requires prepared { IsPreparedDesk (M.meaning (M.numbers crew.now.model.now)) (first_of crew.now.turn.now).board.board.settings.width desk.old }
+    ensures worker { IsWorker crew.now.turn.now seat.new }
     ensures number { seat.new.number ≡ seat.old.number }
     ensures no_less { NoLess (seen_of seat.old) (seen_of seat.new) }
     ensures out { OnOk result (out_of seat.new ≡ out_of seat.old) }
-    ensures diagrams { IfOk result (λ b. AreOfDiagrams (M.meaning (M.numbers model.now)) desk.old.space.width desk.old.kind desk.old.taken.subproblem.decisions b.threshold (contents b.children.items)) }
-    ensures holds { IfOk result (λ b. b.on_desk ≡ true → HoldsDiagram (M.meaning (M.numbers model.now)) desk.new.space desk.new.cutset) }
-    ensures branched { IfOk result (λ b. MayFinishLater (M.meaning (M.numbers model.now)) (first_of turn.now).board.board.settings (out_of seat.new) (seen_of seat.new) b.threshold (contents b.children.items)) }
+    ensures diagrams { IfOk result (λ b. AreOfDiagrams (M.meaning (M.numbers crew.now.model.now)) desk.old.space.width desk.old.kind desk.old.taken.subproblem.decisions b.threshold (contents b.children.items)) }
+    ensures holds { IfOk result (λ b. b.on_desk ≡ true → HoldsDiagram (M.meaning (M.numbers crew.now.model.now)) desk.new.space desk.new.cutset) }
+    ensures branched { IfOk result (λ b. MayFinishLater (M.meaning (M.numbers crew.now.model.now)) (first_of crew.now.turn.now).board.board.settings (out_of seat.new) (seen_of seat.new) b.threshold (contents b.children.items)) }
     ensures stopped { IfErr result (λ stopped. IsLeftOut stopped (out_of seat.old) (out_of seat.new)) }
-    ensures why { IfErr result (WasStopped D.Disk M.meaning turn.now seat.old seat.new) }
-    ensures prepared { IsPreparedDesk (M.meaning (M.numbers model.now)) (first_of turn.now).board.board.settings.width desk.new }
+    ensures why { IfErr result (WasStopped D.Disk M.meaning crew.now.turn.now seat.old seat.new) }
+    ensures prepared { IsPreparedDesk (M.meaning (M.numbers crew.now.model.now)) (first_of crew.now.turn.now).board.board.settings.width desk.new }
 {
-    let restricted = restrict_one(
-        rt,
-        alloc,
-        turn,
-        seat,
-        gate,
-        &mut desk.space,
-        &desk.taken,
-        model,
-        reach,
-    )?;
+    let restricted = restrict_one(crew, seat, desk, reach)?;
     if !restricted.reduced {
         return Ok(Branched {
             threshold: reach,
-            children: Vec::new(alloc),
-            on_desk: fill_for_book(rt, alloc, desk, restricted.reach, model),
+            children: Vec::new(crew.alloc),
+            on_desk: fill_for_book(crew, desk, restricted.reach),
         });
     }
-    relax_one(
-        rt,
-        alloc,
-        turn,
-        seat,
-        gate,
-        &mut desk.space,
-        &mut desk.cutset,
-        &desk.taken,
-        desk.kind,
-        desk.parts,
-        model,
-        restricted.reach,
-    )?;
-    match desk.cutset.subs(alloc) {
+    relax_one(crew, seat, desk, restricted.reach)?;
+    match desk.cutset.subs(crew.alloc) {
         Ok(children) => Ok(Branched {
             threshold: restricted.reach,
             children,

@@ -1,7 +1,7 @@
 use denote.Param.Send.{sendable}
 use Rattle.std.proofs.Crossing.{crosses}
 use Rattle.kept_board.proofs.Sent.{kept_send}
-use Rattle.std.proofs.Common.{◌≡◌, ◌∙◌, rules, ap, subst, sym}
+use Rattle.std.proofs.Common.{◌∙◌, rules, ap, subst, sym}
 use Rattle.turn.specs.Order.{NoLess}
 use Rattle.turn.specs.Seats.{seen_of}
 use Rattle.board_laws.specs.Board.{incumbent_value}

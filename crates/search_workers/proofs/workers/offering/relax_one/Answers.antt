@@ -22,20 +22,20 @@ chain_of g m = (g.met.M.DpModel g.world.𝓛 g.world.𝓜 g.world.𝓡 ((λ s x.
 
 pub offer_one-requires-clause-held : goal.offer_one-requires-clause-held
 offer_one-requires-clause-held g c κs within =
-    let dp = g.M.DpModel.meaning (g.M.DpModel.numbers c.args.model.now) in
-    let found = shown-solution _ _ c.found.ensures ∙ c.fill_with.ensures.found in
+    let dp = g.M.DpModel.meaning (g.M.DpModel.numbers c.args.crew.now.model.now) in
+    let found = shown-solution _ _ c.found.ensures ∙ c.fill_desk.ensures.found in
     subst (λ ns. IncumbentHolds (g.M.DpModel.meaning ns) (found_solution c.found.result)) (sym c.requires.numbers)
     (subst (λ (f : Option Solution). IncumbentHolds dp f) (sym found)
-    (relaxed-held dp (laws_of g c.args.model.now) (chain_of g c.args.model.now) c.args.taken.now.subproblem c.args.space.now.width c.args.reach c.requires.own c.requires.prepared.width))
+    (relaxed-held dp (laws_of g c.args.crew.now.model.now) (chain_of g c.args.crew.now.model.now) c.args.desk.now.taken.subproblem c.args.desk.now.space.width c.args.reach c.requires.own c.requires.room.space.width))
 
 pub returns-clause-branched : goal.returns-clause-branched
 returns-clause-branched g c =
-    let dp = g.M.DpModel.meaning (g.M.DpModel.numbers c.args.model.now) in
-    let settings = (first_of c.args.turn.now).board.board.settings in
-    let reach = reach_seen c.args.turn.now c.offer_one.new.seat in
-    let found = shown-solution _ _ c.found.ensures ∙ c.fill_with.ensures.found in
-    subst (λ (cs : List Subproblem). AreBranched dp settings.width reach c.args.taken.now.subproblem.decisions c.args.reach cs) (sym c.fill_with.ensures.subs)
-    (relaxed-branched-for dp (laws_of g c.args.model.now) (chain_of g c.args.model.now) settings.width reach c.args.taken.now.subproblem c.args.space.now.width c.args.reach c.args.kind c.requires.own
-    c.requires.prepared.width c.requires.width
+    let dp = g.M.DpModel.meaning (g.M.DpModel.numbers c.args.crew.now.model.now) in
+    let settings = (first_of c.args.crew.now.turn.now).board.board.settings in
+    let reach = reach_seen c.args.crew.now.turn.now c.offer_one.new.seat in
+    let found = shown-solution _ _ c.found.ensures ∙ c.fill_desk.ensures.found in
+    subst (λ (cs : List Subproblem). AreBranched dp settings.width reach c.args.desk.now.taken.subproblem.decisions c.args.reach cs) (sym c.fill_desk.ensures.subs)
+    (relaxed-branched-for dp (laws_of g c.args.crew.now.model.now) (chain_of g c.args.crew.now.model.now) settings.width reach c.args.desk.now.taken.subproblem c.args.desk.now.space.width c.args.reach c.args.desk.now.kind c.requires.own
+    c.requires.room.space.width c.requires.room.width
     (subst (λ v. OptionAtMost v reach) (sym c.requires.reach) (seen-later settings.within (seen_of c.args.seat.now) (seen_of c.offer_one.new.seat) c.offer_one.ensures.no_less))
     (subst (λ (f : Option Solution). OptionAtMost (found_value f) reach) found c.in_ok-offer_one.ensures.found))

@@ -20,11 +20,11 @@ offer_one-requires-clause-held g c κs within =
 
 pub returns-clause-whole : goal.returns-clause-whole
 returns-clause-whole g c = λ whole.
-    let settings = (first_of c.args.turn.now).board.board.settings in
-    let reach = reach_seen c.args.turn.now c.offer_one.new.seat in
-    whole-branched-for _ (laws_of g c.args.model.now) settings.width reach _ _ _ _ c.requires.own.prefix (sym whole ∙ c.compile-compiled.ensures.reduced) c.compile-compiled.ensures.beam
+    let settings = (first_of c.args.crew.now.turn.now).board.board.settings in
+    let reach = reach_seen c.args.crew.now.turn.now c.offer_one.new.seat in
+    whole-branched-for _ (laws_of g c.args.crew.now.model.now) settings.width reach _ _ _ _ c.requires.own.prefix (sym whole ∙ c.compile-compiled.ensures.reduced) c.compile-compiled.ensures.beam
     (subst (λ v. OptionAtMost v reach) (sym c.requires.reach) (seen-later settings.within (seen_of c.args.seat.now) (seen_of c.offer_one.new.seat) c.offer_one.ensures.no_less)) c.in_ok-reach.ensures.found
 
 pub returns-clause-beam : goal.returns-clause-beam
 returns-clause-beam g c =
-    subst (λ v. OptionAtMost v (reach_seen c.args.turn.now c.offer_one.new.seat)) (sym (beam-value-held _ c.compile-compiled.result.found c.compile-compiled.ensures.beam)) c.in_ok-reach.ensures.found
+    subst (λ v. OptionAtMost v (reach_seen c.args.crew.now.turn.now c.offer_one.new.seat)) (sym (beam-value-held _ c.compile-compiled.result.found c.compile-compiled.ensures.beam)) c.in_ok-reach.ensures.found

@@ -12,7 +12,7 @@ returns-in_err-relax_one-clause-no_less g c =
 
 pub returns-in_err-relax_one-clause-why : goal.returns-in_err-relax_one-clause-why
 returns-in_err-relax_one-clause-why g c =
-    let t = c.args.turn.now in
+    let t = c.args.crew.now.turn.now in
     let first = c.args.seat.now in
     let seat = c.relax_one.new.seat in
     err_then c.from_residual-in_err-relax_one.result
@@ -22,5 +22,5 @@ returns-in_err-relax_one-clause-why g c =
 
 pub returns-in-Err-clause-why : goal.returns-in-Err-clause-why
 returns-in-Err-clause-why g c =
-    no-memory g.D.Disk g.M.DpModel.meaning c.args.turn.now c.args.seat.now c.relax_one.new.seat c.in_ok-relax_one.ensures.left
+    no-memory g.D.Disk g.M.DpModel.meaning c.args.crew.now.turn.now c.args.seat.now c.relax_one.new.seat c.in_ok-relax_one.ensures.left
     (no-less-then (seen_of c.args.seat.now) (seen_of c.restrict_one.new.seat) (seen_of c.relax_one.new.seat) c.restrict_one.ensures.no_less c.relax_one.ensures.no_less) (c.in_ok-relax_one.ensures.out ∙ c.in_ok-restricted.ensures.out)

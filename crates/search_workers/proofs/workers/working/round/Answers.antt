@@ -16,5 +16,5 @@ wait_turn-requires-send-V g c κs within =
 
 pub returns-in-Finished-clause-ended : goal.returns-in-Finished-clause-ended
 returns-in-Finished-clause-ended g c = λ _.
-    let over : Taken → Type 0 = λ t. IfOver t (HasEndedAt c.args.turn.now c.take_one-asked.new.seat) in
+    let over : Taken → Type 0 = λ t. IfOver t (HasEndedAt c.args.crew.now.turn.now c.take_one-asked.new.seat) in
     ⊎_elim (λ is. subst over is c.take_one-asked.ensures.ended) (λ halted. subst over halted.1 c.take_one-asked.ensures.ended) c.in-Finished.is
