@@ -1,4 +1,5 @@
 pub mod Chains
+pub mod ShortNumbers
 pub mod LastLayers
 pub mod Passing
 pub mod Places

@@ -20,6 +20,7 @@
 
 mod cover_error;
 mod cover_text;
+mod digits;
 mod fixed;
 mod head;
 mod instance;

@@ -7,6 +7,7 @@ ghost use Rattle.bound_cover.specs.Exploring.{layer_of};
 ghost use Rattle.cover_text.specs.Printed.{printed_bound, printed_number, printed_target, printed_arc, printed_arcs, printed_row, printed_layer, printed_layers, printed_cover};
 ghost use Rattle.cover_text.specs.Written.{AreArcs, IsArc, IsKeptLayer, IsKeptRow, IsTarget, IsWord, IsWritten};
 
+use crate::digits::{SHORT, push_negative, push_short};
 use bound_cover::{Cover, CoverArc};
 use dp_model::{DpModel, OutOfMemory};
 use itoa::Buffer;
@@ -22,13 +23,28 @@ fn push_bound(out: &mut Vec<u8>, bound: Option<i64>) -> Result<(), OutOfMemory>
     }
 }
 
+/// Appends a space and a number that may have more than four digits.
+#[inline(never)]
+fn push_long(out: &mut Vec<u8>, number: i64) -> Result<(), OutOfMemory>
+    ensures { OnOk result (out.new.items ≡ out.old.items ++ printed_number number) }
+{
+    push_text(out, " ")?;
+    push_number(out, number)
+}
+
 /// Appends a space and a number.
+#[inline]
 fn push_after(out: &mut Vec<u8>, number: i64) -> Result<(), OutOfMemory>
     ensures pushed { OnOk result (out.new.items ≡ out.old.items ++ printed_number number) }
     ensures fits { OnOk result (IsWord number) }
 {
-    push_text(out, " ")?;
-    push_number(out, number)
+    if 0 <= number && number < SHORT {
+        return push_short(out, number as u64);
+    }
+    if -SHORT < number && number < 0 {
+        return push_negative(out, (-number) as u64);
+    }
+    push_long(out, number)
 }
 
 /// Appends the words of a row.
