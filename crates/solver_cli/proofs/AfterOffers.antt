@@ -19,7 +19,10 @@ use Rattle.board_laws.specs.declared.improved.Improved.TheVariants.{Yes, NotBett
 use Rattle.board_laws.proofs.Carrying.{option-self}
 use Rattle.board_laws.proofs.Running.{offer-runs, option-then, run-follows, run-then}
 use Rattle.kept_board.specs.Kept.{IsKept}
+use Rattle.kept_board.specs.Moves.{IsMove}
 use Rattle.kept_board.specs.View.{KeptView, tag_of}
+use Rattle.kept_board.specs.declared.error.KeptError.{KeptError}
+use Rattle.kept_board.specs.declared.error.KeptError.TheVariants as errors
 use Rattle.kept_board.specs.declared.tag.KeptTag.{KeptTag}
 use Rattle.part_reports.specs.Reports.{ReportView, value_told}
 use Rattle.search_workers.specs.Later.{IsLater}
@@ -78,6 +81,15 @@ worth-then (r ∷ rs) a b h k = (option-then (value_told r) a b h.0 k, worth-the
 module _ {D : Type 0} (dp : Dp) where
   pub none-offered : (k : KeptView D) → IsAfterOffers dp k k
   none-offered k = record { later = later-self dp k.board.board k.board.board refl; tag = refl; made = refl; has = refl }
+
+  -- after one offer
+  pub after-offer : (on : Ghosts D) (meaning : List ℤ → Dp) (who : ℕ) (before now : KeptView D) → IsLater dp before.board.board now.board.board → tag_of now ≡ tag_of before → IsMove on meaning before now who → IsAfterOffers dp before now
+  after-offer on meaning who before now later tag move = record { later = later; tag = tag; made = move.made; has = move.has }
+
+  -- or one that was not taken
+  pub not-offered : (before now : KeptView D) (error : KeptError) → (error ≡ errors.Journal → now.board.board ≡ halted before.board.board Journal) → (error ≡ errors.OutOfMemory → now ≡ before) → IsLater dp before.board.board now.board.board
+  not-offered before now errors.Journal halts same = failed dp before.board.board now.board.board (halts refl)
+  not-offered before now errors.OutOfMemory halts same = later-self dp before.board.board now.board.board (ap (λ (k : KeptView D). k.board.board) (same refl))
 
   pub offers-then : (a b c : KeptView D) → IsAfterOffers dp a b → IsAfterOffers dp b c → IsAfterOffers dp a c
   offers-then a b c h k = record {
