@@ -1,4 +1,5 @@
-use Rattle.std.proofs.Common.{inl, map, rules}
+use Rattle.std.proofs.Common.{inl, map}
+use Rattle.std.proofs.lemmas.List.{take_rest}
 use Rattle.board_laws.specs.Board.{incumbent_value}
 use Rattle.board_laws.proofs.Carrying.{option-self}
 use Rattle.board_laws.proofs.Running.{option-then}
@@ -14,20 +15,17 @@ loop-rest-preserved g c =
     let now = c.offer.new.kept in
     let rest = c.loop-rest.rest.now in
     let r = c.report-item.result in
-    let e = c.in-Ok.ensures in
+    let e = c.in_default-offer.ensures in
     record {
       after = more-offers meaning c.args.kept.now kept now inv.after e.after;
       going = still-going (meaning kept.board.numbers) kept now e.after e.going inv.going;
-      tested = tested-next (meaning c.args.kept.now.board.numbers) rest (search rules) inv.tested;
+      tested = tested-next (meaning c.args.kept.now.board.numbers) rest (take_rest rest 1) inv.tested;
       taken = λ told least more. inv.taken told (option-then (incumbent_value kept.board.board) (incumbent_value now.board.board) told (better-after (meaning kept.board.numbers) kept now e.after) least)
-          (worth-next rest r told (search rules) c.in-len1-up.len_at_least c.report-item.is (option-then (value_told (report_view r)) (incumbent_value now.board.board) told e.taken least) more);
+          (worth-next rest r told (take_rest rest 1) c.in-len1-up.len_at_least c.report-item.is (option-then (value_told (report_view r)) (incumbent_value now.board.board) told e.taken least) more);
     }
 
-pub returns-in-Err-Journal-clause-after : goal.returns-in-Err-Journal-clause-after
-returns-in-Err-Journal-clause-after g c = more-offers g.M.DpModel.meaning c.args.kept.now c.loop-rest.kept c.offer.new.kept c.loop-rest.invariant.after c.offer.ensures.after
-
-pub returns-in-Err-OutOfMemory-clause-after : goal.returns-in-Err-OutOfMemory-clause-after
-returns-in-Err-OutOfMemory-clause-after g c = more-offers g.M.DpModel.meaning c.args.kept.now c.loop-rest.kept c.offer.new.kept c.loop-rest.invariant.after c.offer.ensures.after
+pub returns-in-Err-clause-after : goal.returns-in-Err-clause-after
+returns-in-Err-clause-after g c = more-offers g.M.DpModel.meaning c.args.kept.now c.loop-rest.kept c.offer.new.kept c.loop-rest.invariant.after c.offer.ensures.after
 
 pub returns-clause-taken : goal.returns-clause-taken
 returns-clause-taken g c =

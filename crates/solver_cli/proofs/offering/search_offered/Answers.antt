@@ -1,4 +1,4 @@
-use Rattle.std.proofs.Common.{◌≡◌, map}
+use Rattle.std.proofs.Common.{map, sym}
 use Rattle.part_reports.specs.Reports.{report_view}
 use Rattle.solver_cli.proofs.AfterOffers.{keeps-after, keeps-alone, same-numbers, searched-after, still-ready, taken-after}
 use Rattle.solver_cli.proofs.offering.search_offered.Goals as goal
@@ -17,7 +17,7 @@ returns-in-Ok-clause-searched g c = λ own agrees.
 
 pub returns-in-Ok-clause-taken : goal.returns-in-Ok-clause-taken
 returns-in-Ok-clause-taken g c = λ own agrees.
-    taken-after g.M.DpModel.meaning (g.M.DpModel.numbers c.args.model.now) c.args.kept c.offer_all.new.kept c.requires.numbers c.offer_all.ensures.after g.D.Disk c.search_from.result.1 (map report_view c.args.offers.now) c.in-Ok.ensures c.search_from.ensures.failed c.search_from.result.0
+    taken-after g.M.DpModel.meaning (g.M.DpModel.numbers c.args.model.now) c.args.kept c.offer_all.new.kept c.requires.numbers c.offer_all.ensures.after g.D.Disk c.search_from.result.1 (map report_view c.args.offers.now) c.in-Ok.ensures.taken c.search_from.ensures.failed c.search_from.result.0
     (c.search_from.ensures.rises own agrees)
 
 pub returns-in-Ok-clause-keeps : goal.returns-in-Ok-clause-keeps
@@ -26,4 +26,4 @@ returns-in-Ok-clause-keeps g c =
 
 pub returns-in-Err-clause-keeps : goal.returns-in-Err-clause-keeps
 returns-in-Err-clause-keeps g c =
-    keeps-alone g.M.DpModel.meaning (g.M.DpModel.numbers c.args.model.now) c.args.kept c.offer_all.new.kept c.requires.numbers c.offer_all.ensures.after g.D.Disk c.into_parts-disk.result.1 c.into_parts-disk.ensures.kept c.into_parts-disk.ensures.disk
+    keeps-alone g.M.DpModel.meaning (g.M.DpModel.numbers c.args.model.now) c.args.kept c.offer_all.new.kept c.requires.numbers c.offer_all.ensures.after g.D.Disk c.into_parts-disk.result.1 c.into_parts-disk.ensures.kept (sym c.into_parts-disk.ensures.disk)
