@@ -1,5 +1,5 @@
 -- What the reports of all parts of a stopped search are joined to.
-use Rattle.std.proofs.Common.{◌≡◌, ◌⊎◌, inl, ℕ, ◌<◌, ℤ, List, [], ◌∷◌, length, Option, Some, None, Result, Ok, Err, true, is_some, false, refl, sym, ◌∙◌, ap, subst, arith}
+use Rattle.std.proofs.Common.{◌≡◌, ◌⊎◌, inl, inr, ℕ, ◌<◌, ℤ, List, [], ◌∷◌, length, Option, Some, None, Result, Ok, Err, true, is_some, false, refl, sym, ◌∙◌, ap, subst, arith}
 use Rattle.std.specs.Prelude.{IfErr, IfOk, MatchResult}
 use Rattle.disk.specs.declared.disk.Disk.{Ghosts}
 use Rattle.bound_cover.specs.Exploring.{HoldsAll}
@@ -29,12 +29,13 @@ use Rattle.solver_report.specs.declared.answer.Answer.{Answer}
 use Rattle.solver_report.specs.declared.answer.Answer.TheVariants as answers
 use Rattle.tokens.specs.declared.instance_error.InstanceError.{InstanceError}
 use Rattle.answers.specs.Covers.{cover_limit}
-use Rattle.answers.specs.Ended.{IsInputAnswer, Readings, WasRead}
+use Rattle.answers.specs.Ended.{IsInputAnswer, LeavesAfterReports, Readings, WasRead}
+use Rattle.answers.specs.Journals.{Attaches, IsUnwritten}
 use Rattle.answers.specs.Opened.{IsForDisk, IsForFile, ReadsNamed}
 use Rattle.answers.specs.Outcomes.{IsTrueOf}
 use Rattle.answers.specs.PartSearches.{AreSettledWithin}
 use Rattle.answers.specs.Offers.{RefusesReport, parts_told}
-use Rattle.answers.specs.ReportsJoined.{AreAllHeld, DoesNotJoin, HasBest, HasJoined, IsTrueJoined, JoinsFrom, JoinsIn, JoinsJournal, JoinsReports, RefusesReports, TellsJoined, joined_answer, starts_for, whole_outcome}
+use Rattle.answers.specs.ReportsJoined.{AreAllHeld, DoesNotJoin, HasBest, HasJoined, IsTrueJoined, JoinsFrom, JoinsIn, JoinsJournal, JoinsReports, LeavesRead, RefusesReports, TellsJoined, joined_answer, starts_for, whole_outcome}
 use Rattle.answers.specs.Splits.{idle_settings, stopped_board}
 use Rattle.answers.proofs.Conclusions.{found_holds, reach_infeasible, reach_proved}
 use Rattle.answers.proofs.Texts.{whole-or-memory}
@@ -211,3 +212,11 @@ module _ {D : Type 0} (on : Ghosts D) (path : List ℕ) (before now : D) where
   -- reports that were read
   pub text-joined : (bytes : List ℕ) (rs : List SettledView) → reports_of bytes ≡ Ok rs → (answer : Answer) → ReadsNamed on (JoinsJournal rs) path before now answer → JoinsReports on path before now bytes answer
   text-joined bytes rs read answer h = subst (λ (r : Result (List SettledView) InstanceError). MatchResult r (λ rs. ReadsNamed on (JoinsJournal rs) path before now answer) (λ e. RefusesReport e answer × (now ≡ before))) (sym read) h
+
+-- ---- what is left
+
+-- what is left after a text of reports is what is left after an input
+pub left-read : {D : Type 0} (on : Ghosts D) (path text : List ℕ) (r : Readings) (before now : D) → WasRead cover_limit r text → LeavesRead on path text before now
+    → LeavesAfterReports r (Attaches on path before now × IsUnwritten on now) before now
+left-read on path text r before now read (inl same) = inl same
+left-read on path text r before now read (inr h) = inr ((h.0, h.1), (text, read, h.2))
