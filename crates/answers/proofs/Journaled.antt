@@ -294,7 +294,7 @@ module _ {D : Type 0} (on : Ghosts D) where
       attaches
 
   -- a call that failed later failed after the first sync
-  failed-later : (first later : Option FirstSync) (few many : ℕ) → later ≡ first → IsSome first → IfSome first (λ s. s.faults ≤ few) → Rose few many → IsSomeAnd later (λ s. Rose s.faults many)
+  pub failed-later : (first later : Option FirstSync) (few many : ℕ) → later ≡ first → IsSome first → IfSome first (λ s. s.faults ≤ few) → Rose few many → IsSomeAnd later (λ s. Rose s.faults many)
   failed-later None later few many same some counted rose = absurd (cc)
   failed-later (Some s) later few many same some counted rose = subst (λ (o : Option FirstSync). IsSomeAnd o (λ s. Rose s.faults many)) (sym same) (omega (arith, counted, rose))
 

@@ -13,5 +13,6 @@ pub mod Journaled
 pub mod Opened
 pub mod Splits
 pub mod Texts
+pub mod Offers
 pub mod Distances
 pub mod ReportsJoined

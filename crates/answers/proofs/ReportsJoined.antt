@@ -33,10 +33,11 @@ use Rattle.answers.specs.Ended.{IsInputAnswer, Readings, WasRead}
 use Rattle.answers.specs.Opened.{ReadsNamed}
 use Rattle.answers.specs.Outcomes.{IsTrueOf}
 use Rattle.answers.specs.PartSearches.{AreSettledWithin}
-use Rattle.answers.specs.ReportsJoined.{AreAllHeld, DoesNotJoin, HasBest, HasJoined, IsTrueJoined, JoinsFrom, JoinsIn, JoinsJournal, JoinsReports, RefusesReport, RefusesReports, TellsJoined, joined_answer, parts_told, starts_for, whole_outcome}
+use Rattle.answers.specs.Offers.{RefusesReport, parts_told}
+use Rattle.answers.specs.ReportsJoined.{AreAllHeld, DoesNotJoin, HasBest, HasJoined, IsTrueJoined, JoinsFrom, JoinsIn, JoinsJournal, JoinsReports, RefusesReports, TellsJoined, joined_answer, starts_for, whole_outcome}
 use Rattle.answers.specs.Splits.{idle_settings, stopped_board}
 use Rattle.answers.proofs.Conclusions.{found_holds, reach_infeasible, reach_proved}
-use Rattle.answers.proofs.Texts.{whole}
+use Rattle.answers.proofs.Texts.{whole-or-memory}
 use Rattle.answers.proofs.Opened.{refused-not-disk}
 use Rattle.answers.proofs.PartSearches.{in_own_words}
 use Rattle.answers.proofs.Splits.{idle-are, stopped-is}
@@ -207,8 +208,7 @@ module _ {D : Type 0} (on : Ghosts D) (path : List ℕ) (before now : D) where
   -- what is answered to a text is answered to the input
   pub input-told : (r : Readings) (bytes : List ℕ) (answer : Answer) → WasRead cover_limit r bytes → (answer ≡ answers.OutOfMemory) ⊎ JoinsReports on path before now bytes answer
       → IsInputAnswer cover_limit (JoinsReports on path before now) r answer
-  input-told r bytes answer read (inl memory) = subst (IsInputAnswer cover_limit (JoinsReports on path before now) r) (sym memory) read.sound
-  input-told r bytes answer read (inr h) = whole cover_limit (JoinsReports on path before now) r bytes answer (no-fault bytes) (no-length bytes) read h
+  input-told r bytes answer read h = whole-or-memory cover_limit (JoinsReports on path before now) r bytes answer (no-fault bytes) (no-length bytes) read h
 
   -- reports that were read
   pub text-joined : (bytes : List ℕ) (rs : List SettledView) → reports_of bytes ≡ Ok rs → (answer : Answer) → ReadsNamed on (JoinsJournal rs) path before now answer → JoinsReports on path before now bytes answer

@@ -1,5 +1,5 @@
 -- How a run of the program ends.
-use Rattle.std.specs.Prelude.{◌≡◌, ℕ, ℤ, ◌+◌, ◌^◌, ◌≤◌, ◌==◌, if◌then◌else◌, List, length, Option, Some, None, IfSome, IsOkAnd, Ok, Err, ◌⊎◌}
+use Rattle.std.specs.Prelude.{◌≡◌, ℕ, ℤ, ◌+◌, ◌^◌, ◌≤◌, ◌==◌, if◌then◌else◌, true, false, List, [], length, Option, Some, None, IfSome, IsOkAnd, Ok, Err, ◌⊎◌}
 use Rattle.disk.specs.declared.disk.Disk.{Ghosts}
 use Rattle.problem_names.specs.declared.ModelName.{ModelName}
 use Rattle.std.specs.Io.KnownBytes.{append_known}
@@ -17,7 +17,7 @@ use Rattle.answers.specs.Checks.{IsChecked}
 use Rattle.answers.specs.Covers.{cover_limit}
 use Rattle.answers.specs.Joins.{IsJoined}
 use Rattle.answers.specs.Journals.{Attaches, HasLeftBegun}
-use Rattle.answers.specs.Kept.{LeavesAfterResume, MayFollow, RepliesKept, Resumes, head_of}
+use Rattle.answers.specs.Kept.{LeavesAfterResume, MayFollow, RepliesKept, Resumes, ResumesOffered, head_of}
 use Rattle.answers.specs.ReportsJoined.{JoinsReports, LeavesRead}
 use Rattle.answers.specs.Splits.{Splits}
 
@@ -108,7 +108,9 @@ module _ {D : Type 0} (on : Ghosts D) where
   IsJobAnswer (solve name given (Some path) (Some part)) r before now answer = ⊥
   IsJobAnswer (solve name search (Some path) None) r before now answer =
       IsInputAnswer text_limit (RepliesKept on name search before now) r answer × LeavesOfSearch name search.within path r before now
-  IsJobAnswer (resume path search) r before now answer = IsUntouched r × Resumes on search before now answer × LeavesAfterResume on MayFollow path before now
+  IsJobAnswer (resume path search false) r before now answer = IsUntouched r × Resumes on [] search before now answer × LeavesAfterResume on MayFollow path before now
+  IsJobAnswer (resume path search true) r before now answer =
+      IsInputAnswer cover_limit (ResumesOffered on search before now) r answer × ((now ≡ before) ⊎ LeavesAfterResume on MayFollow path before now)
   IsJobAnswer (split path part) r before now answer = IsUntouched r × Splits on part path before now answer
   IsJobAnswer check r before now answer = IsInputAnswer cover_limit IsChecked r answer × (now ≡ before)
   IsJobAnswer join r before now answer = IsInputAnswer cover_limit IsJoined r answer × (now ≡ before)

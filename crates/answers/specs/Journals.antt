@@ -98,9 +98,13 @@ module _ {D : Type 0} (on : Ghosts D) where
     pub spent : AreSound dp b.settings.within old → b.cause ≡ None → IsTrue (is_budget_up b)
         → (b.settings.budget ≤ finish_records added) ⊎ (2 ^ 64 - 2 ^ 29 < (replay_of dp (old ++ added)).next_ticket)
 
-  -- the board is kept: it is halted for the journal only where a call of the disk has failed after the first sync
+  -- a call of the disk has failed after the first sync
+  abbrev pub HasDiskFailed : D → Type 0
+  HasDiskFailed now = IsSomeAnd (on.start now) (λ s. Rose s.faults (on.faults now))
+
+  -- the board is kept: it is halted for the journal only where the disk has failed since then
   pub record HasKept (dp : Dp) (head : HeadView) (old : List RecordView) (Leaves : List RecordView → D → Type 0) (now : D) (b : BoardState) : Type 0 where
-    pub rose : b.cause ≡ Some Journal → IsSomeAnd (on.start now) (λ s. Rose s.faults (on.faults now))
+    pub rose : b.cause ≡ Some Journal → HasDiskFailed now
     pub journal : IsTrue (on.tells now) → IsJournaled dp head old Leaves now b
 
   -- why no journal is begun: the disk has failed, before any record was added; or the file has two or more bytes of which the first is not 0, and

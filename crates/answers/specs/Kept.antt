@@ -18,6 +18,8 @@ use Rattle.journal_replay.specs.Sound.{AreSound, AreSoundOf}
 use Rattle.problem_names.specs.declared.ModelName.{ModelName}
 use Rattle.problems.specs.Theories.{theory_of}
 use Rattle.problem_theory.specs.Theory.{Theory}
+use Rattle.part_reports.specs.Reports.{ReportView}
+use Rattle.part_text.specs.Reports.{reports_of}
 use Rattle.solver_report.specs.declared.answer.Answer.{Answer}
 use Rattle.solver_report.specs.declared.answer.Answer.TheVariants as answers
 use Rattle.solver_report.specs.declared.answer.SearchedPart.{SearchedPart}
@@ -26,7 +28,8 @@ use Rattle.answers.specs.Checks.{RefusesInstance}
 use Rattle.answers.specs.Covers.{IsCovered}
 use Rattle.answers.specs.Outcomes.{HasSearched}
 use Rattle.answers.specs.PartSearches.{HasSearchedPart}
-use Rattle.answers.specs.Journals.{AreFrontsAdded, Attaches, HasGoneOn, HasKept, IsRefusedToBegin, IsUnwritten, LeavesBegun, LeavesResumed, MightBegin, SinceAttached}
+use Rattle.answers.specs.Journals.{AreFrontsAdded, Attaches, HasDiskFailed, HasGoneOn, HasKept, IsRefusedToBegin, IsUnwritten, LeavesBegun, LeavesResumed, MightBegin, SinceAttached}
+use Rattle.answers.specs.Offers.{HasTaken, RefusesOffer, RefusesReport, part_value, parts_told, told_value}
 use Rattle.answers.specs.Widths.{IsRefusedWidth, IsSearchWidth}
 use Rattle.solver_words.specs.declared.job.JobSettings.{JobSettings}
 
@@ -73,58 +76,67 @@ module _ {D : Type 0} (on : Ghosts D) where
       (λ e. RefusesInstance e answer × (now ≡ before))
 
   -- what may be answered where the search of a journal goes on: a record is refused where it stands, or how the search ends that goes on from what the
-  -- records make, within the distance of their head; it rests on their soundness
-  abbrev pub GoesOn : Dp → (List ℕ → Option ℤ) → HeadView → List RecordView → ℕ → JobSettings → D → Answer → Type 0
-  GoesOn dp own head records first search now (answers.Journal e) = AreRefused dp first records e
-  GoesOn dp own head records first search now answer =
-      Ends dp (going_on head search) (λ outcome counts. AreAccepted dp records
+  -- records make, within the distance of their head, after it has taken what is offered; it rests on their soundness; an offer may be refused after the records
+  abbrev pub GoesOn : Dp → (List ℕ → Option ℤ) → HeadView → List RecordView → ℕ → List ReportView → JobSettings → D → Answer → Type 0
+  GoesOn dp own head records first offers search now (answers.Journal e) = AreRefused dp first records e
+  GoesOn dp own head records first offers search now (answers.ReportsRefused refusal) = AreAccepted dp records × RefusesOffer dp offers refusal
+  GoesOn dp own head records first offers search now answer =
+      Ends dp (going_on head search) (λ outcome counts. AreAccepted dp records × HasTaken (HasDiskFailed on now) dp offers (told_value outcome)
       × HasSearched dp own (λ settings. restored_from settings (replay_of dp records)) (AreSound dp head.within records) (going_on head search)
       (HasKept on dp head records (LeavesResumed on head records) now) outcome counts) answer
 
   -- the same for the journal of a part, whose search begins with some start prefixes: it rests on their records' soundness from these, and it is told of the part
-  abbrev pub GoesOnPart : Dp → (List ℕ → Option ℤ) → Part → List (List ℕ) → HeadView → List RecordView → ℕ → JobSettings → D → Answer → Type 0
-  GoesOnPart dp own part starts head records first search now (answers.Journal e) = AreRefused dp first records e
-  GoesOnPart dp own part starts head records first search now answer =
-      EndsPart dp search (searched_part part) (λ outcome counts. AreAccepted dp records
+  abbrev pub GoesOnPart : Dp → (List ℕ → Option ℤ) → Part → List (List ℕ) → HeadView → List RecordView → ℕ → List ReportView → JobSettings → D → Answer → Type 0
+  GoesOnPart dp own part starts head records first offers search now (answers.Journal e) = AreRefused dp first records e
+  GoesOnPart dp own part starts head records first offers search now (answers.ReportsRefused refusal) = AreAccepted dp records × RefusesOffer dp offers refusal
+  GoesOnPart dp own part starts head records first offers search now answer =
+      EndsPart dp search (searched_part part) (λ outcome counts. AreAccepted dp records × HasTaken (HasDiskFailed on now) dp offers (part_value outcome)
       × HasSearchedPart dp own starts (λ settings. restored_from settings (replay_of dp records)) (AreSoundOf dp starts head.within records) (going_on head search)
       (HasKept on dp head records (LeavesResumed on head records) now) outcome counts) answer
 
   -- where it has none, since it does not begin with a snapshot, the journal is refused at its first record
-  abbrev pub ResumesPart : Dp → (List ℕ → Option ℤ) → Part → Option (List (List ℕ)) → HeadView → List RecordView → ℕ → JobSettings → D → Answer → Type 0
-  ResumesPart dp own part None head records first search now answer = answer ≡ answers.Journal (errors.Malformed first)
-  ResumesPart dp own part (Some starts) head records first search now answer = GoesOnPart dp own part starts head records first search now answer
+  abbrev pub ResumesPart : Dp → (List ℕ → Option ℤ) → Part → Option (List (List ℕ)) → HeadView → List RecordView → ℕ → List ReportView → JobSettings → D → Answer → Type 0
+  ResumesPart dp own part None head records first offers search now answer = answer ≡ answers.Journal (errors.Malformed first)
+  ResumesPart dp own part (Some starts) head records first offers search now answer = GoesOnPart dp own part starts head records first offers search now answer
 
   -- for an instance: the whole search goes on, or that of the part of which the journal is
-  abbrev pub ResumesIn : Dp → (List ℕ → Option ℤ) → Option Part → HeadView → List RecordView → ℕ → JobSettings → D → Answer → Type 0
-  ResumesIn dp own None head records first search now answer = GoesOn dp own head records first search now answer
-  ResumesIn dp own (Some part) head records first search now answer = ResumesPart dp own part (starts_in records) head records first search now answer
+  abbrev pub ResumesIn : Dp → (List ℕ → Option ℤ) → Option Part → HeadView → List RecordView → ℕ → List ReportView → JobSettings → D → Answer → Type 0
+  ResumesIn dp own None head records first offers search now answer = GoesOn dp own head records first offers search now answer
+  ResumesIn dp own (Some part) head records first offers search now answer = ResumesPart dp own part (starts_in records) head records first offers search now answer
 
   -- for a journal whose first record has this offset: for the instance of its head, whose text is refused as malformed at 0
-  abbrev pub ResumesJournal : JournalView → ℕ → JobSettings → D → Answer → Type 0
-  ResumesJournal j first search now answer =
+  abbrev pub ResumesJournal : JournalView → ℕ → List ReportView → JobSettings → D → Answer → Type 0
+  ResumesJournal j first offers search now answer =
       let t = theory_of j.head.model in
       MatchResult (t.spelled j.head.text)
-      (λ numbers. ResumesIn (t.program numbers) (t.own_value numbers) j.head.part j.head j.records first search now answer)
+      (λ numbers. ResumesIn (t.program numbers) (t.own_value numbers) j.head.part j.head j.records first offers search now answer)
       (λ e. answer ≡ answers.Journal (errors.Malformed 0))
 
   -- a file was read after the first sync, which is what that found where the disk tells it; the answer is for the journal that it is, or the first cause for which it is none
-  pub record WasResumed (search : JobSettings) (now : D) (answer : Answer) : Type 0 where
+  pub record WasResumed (offers : List ReportView) (search : JobSettings) (now : D) (answer : Answer) : Type 0 where
     pub began : IsSome (on.start now)
     pub file : List ℕ
     pub is_file : SinceAttached on now (λ s. s.content ≡ file)
     pub right : MatchResult (journal_of file)
-        (λ j. ResumesJournal j (after_head (frames_of file)) search now answer)
+        (λ j. ResumesJournal j (after_head (frames_of file)) offers search now answer)
         (λ refusal. answer ≡ answers.Journal (error_of refusal))
 
-  -- what `resume` may answer: the disk has failed, memory ran out, or the answer is for the file; nothing was written where the disk failed, or the file
-  -- or the width is refused
-  abbrev pub Resumes : JobSettings → D → D → Answer → Type 0
-  Resumes search before now (answers.Journal errors.Disk) = Rose (on.faults before) (on.faults now) × IsUnwritten on now
-  Resumes search before now (answers.Journal errors.OutOfMemory) = Unit {0}
-  Resumes search before now (answers.Journal e) = WasResumed search now (answers.Journal e) × IsUnwritten on now
-  Resumes search before now answers.Width = WasResumed search now answers.Width × IsUnwritten on now
-  Resumes search before now answers.OutOfMemory = Unit {0}
-  Resumes search before now answer = WasResumed search now answer
+  -- what `resume` may answer: the disk has failed, memory ran out, or the answer is for the file; nothing was written where the disk failed, or the file,
+  -- the width or an offer is refused
+  abbrev pub Resumes : List ReportView → JobSettings → D → D → Answer → Type 0
+  Resumes offers search before now (answers.Journal errors.Disk) = Rose (on.faults before) (on.faults now) × IsUnwritten on now
+  Resumes offers search before now (answers.Journal errors.OutOfMemory) = Unit {0}
+  Resumes offers search before now (answers.Journal e) = WasResumed offers search now (answers.Journal e) × IsUnwritten on now
+  Resumes offers search before now answers.Width = WasResumed offers search now answers.Width × IsUnwritten on now
+  Resumes offers search before now (answers.ReportsRefused refusal) = WasResumed offers search now (answers.ReportsRefused refusal) × IsUnwritten on now
+  Resumes offers search before now answers.OutOfMemory = Unit {0}
+  Resumes offers search before now answer = WasResumed offers search now answer
+
+  -- what it may answer where the input is reports, whose solutions are offered before the search goes on; the input is refused at its first fault, and then the
+  -- disk is as it was
+  abbrev pub ResumesOffered : JobSettings → D → D → List ℕ → Answer → Type 0
+  ResumesOffered search before now bytes answer =
+      MatchResult (reports_of bytes) (λ rs. Resumes (parts_told rs) search before now answer) (λ e. RefusesReport e answer × (now ≡ before))
 
   -- and what it leaves on the disk, whatever it answers: the named file is attached, and whatever journal the first sync found there, it has gone on from that
   -- with records that may follow

@@ -9,6 +9,7 @@ pub mod Outcomes
 pub mod PartSearches
 pub mod Joins
 pub mod Answers
+pub mod Offers
 -- what a run leaves on its disk where it keeps a journal, and what it then answers
 pub mod Journals
 pub mod Kept
@@ -18,3 +19,4 @@ pub mod Splits
 pub mod ReportsJoined
 -- how a run ends
 pub mod Ended
+pub mod OffersRead

@@ -1,5 +1,5 @@
 -- When what is answered to the reports of all parts of a stopped search is right.
-use Rattle.std.specs.Prelude.{◌≡◌, ◌≢◌, ◌⊎◌, ℕ, ◌+◌, ◌<◌, ℤ, List, [], ◌∷◌, length, map, Option, Some, None, MatchResult, IfSome}
+use Rattle.std.specs.Prelude.{◌≡◌, ◌≢◌, ◌⊎◌, ℕ, ◌+◌, ◌<◌, ℤ, List, [], ◌∷◌, length, Option, Some, None, MatchResult, IfSome}
 use Rattle.disk.specs.declared.disk.Disk.{Ghosts}
 use Rattle.dp_model.specs.Dp.{Dp}
 use Rattle.dp_model.specs.Lists.{Each}
@@ -27,18 +27,14 @@ use Rattle.solver_report.specs.declared.answer.Outcome.TheVariants as outcomes
 use Rattle.solver_report.specs.declared.answer.PartOutcome.TheVariants.{Settled}
 use Rattle.solver_report.specs.declared.answer.ReportRefusal.{ReportRefusal}
 use Rattle.solver_report.specs.declared.answer.ReportRefusal.TheVariants as refusals
-use Rattle.tokens.specs.declared.instance_error.InstanceError.{InstanceError}
 use Rattle.answers.specs.Journals.{Attaches, IsUnwritten}
 use Rattle.answers.specs.Kept.{searched_part, starts_in}
+use Rattle.answers.specs.Offers.{RefusesReport, parts_told}
 use Rattle.answers.specs.Opened.{ReadsNamed}
 use Rattle.answers.specs.Outcomes.{IsTrueOf}
 use Rattle.answers.specs.PartSearches.{AreSettledWithin}
 use Rattle.answers.specs.Reports.{IncumbentIsFeasible}
 use Rattle.answers.specs.Splits.{stopped_board}
-
--- what reports tell of their parts
-abbrev pub parts_told : List SettledView → List ReportView
-parts_told rs = map (λ (r : SettledView). r.report) rs
 
 -- ---- refusals
 
@@ -159,12 +155,6 @@ JoinsJournal rs j first answer =
     MatchResult ((theory_of j.head.model).spelled j.head.text)
     (λ numbers. JoinsIn ((theory_of j.head.model).program numbers) ((theory_of j.head.model).own_value numbers) (starts_for j.head.part j.records) rs j first answer)
     (λ e. answer ≡ answers.Journal (errors.Malformed 0))
-
--- the first fault of the reports' text is answered, or want of memory
-abbrev pub RefusesReport : InstanceError → Answer → Type 0
-RefusesReport e (answers.ReportRefused given) = given ≡ e
-RefusesReport e answers.OutOfMemory = Unit {0}
-RefusesReport e _ = ⊥
 
 module _ {D : Type 0} (on : Ghosts D) where
   -- what may be answered to the reports, for the journal in the named file, which is only read: or their first fault, and then the disk is as it was

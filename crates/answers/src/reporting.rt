@@ -14,7 +14,8 @@ ghost use Rattle.problems.specs.Theories.{theory_of};
 ghost use Rattle.answers.specs.Covers.{cover_limit};
 ghost use Rattle.answers.specs.Ended.{IsInputAnswer, readings};
 ghost use Rattle.answers.specs.Opened.{ReadsNamed};
-ghost use Rattle.answers.specs.ReportsJoined.{AreWithin, DistancesGive, DoesNotJoin, HasBest, HasJoined, JoinsIn, JoinsJournal, JoinsReports, LeavesRead, RefusesReports, joined_answer, joined_of, parts_told, starts_for, told_solution, whole_outcome};
+ghost use Rattle.answers.specs.Offers.{parts_told};
+ghost use Rattle.answers.specs.ReportsJoined.{AreWithin, DistancesGive, DoesNotJoin, HasBest, HasJoined, JoinsIn, JoinsJournal, JoinsReports, LeavesRead, RefusesReports, joined_answer, joined_of, starts_for, told_solution, whole_outcome};
 
 use crate::inputs::{COVER_LIMIT, unread};
 use crate::journaling::open_journal;
@@ -290,7 +291,10 @@ fn incumbent_of<M: DpModel>(
 }
 
 /// What reports tell of their parts.
-fn parts_of(alloc: Global, reports: Vec<SettledReport>) -> Result<Vec<PartReport>, OutOfMemory>
+pub(crate) fn parts_of(
+    alloc: Global,
+    reports: Vec<SettledReport>,
+) -> Result<Vec<PartReport>, OutOfMemory>
     ensures { IfOk result (λ parts. map report_view parts.items ≡ parts_told (map settled_view reports.items)) }
 {
     let mut parts = Vec::with_capacity(alloc, reports.len())?;

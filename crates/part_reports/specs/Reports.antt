@@ -2,6 +2,7 @@
 use Rattle.std.specs.Prelude.{◌≡◌, ◌⊎◌, ℕ, ◌+◌, ℤ, nat_eq, Bool, true, false, ◌&&◌, List, [], ◌∷◌, map, option_map, Option, Some, None, IsTrue}
 use Rattle.std.specs.Str.{bytes_eq}
 use Rattle.dp_model.specs.Dp.{Dp}
+use Rattle.dp_model.specs.Lists.{Each}
 use Rattle.dp_model.specs.Solution.{IsSolutionWith}
 use Rattle.journal_bytes.specs.Bodies.{IncumbentView}
 use Rattle.journal_bytes.specs.Views.{incumbent_view}
@@ -38,6 +39,20 @@ IsTested dp (Some b) = IsSolutionWith dp b.decisions b.value
 abbrev pub TestGives : Dp → Option IncumbentView → Bool → Type 0
 TestGives dp best true = IsTested dp best
 TestGives dp best false = IsTested dp best → ⊥
+
+-- each report tells none or a feasible solution with its value
+abbrev pub AreTested : Dp → List ReportView → Type 0
+AreTested dp rs = Each (λ (r : ReportView). IsTested dp r.best) rs
+
+-- this is the place of the first report whose solution is none with its value, from the place i on
+abbrev pub IsFirstUntested : Dp → ℕ → List ReportView → ℕ → Type 0
+IsFirstUntested dp i [] place = ⊥
+IsFirstUntested dp i (r ∷ rs) place = ((place ≡ i) × (IsTested dp r.best → ⊥)) ⊎ (IsTested dp r.best × IsFirstUntested dp (i + 1) rs place)
+
+-- the place of the first such report, or none
+abbrev pub UntestedGives : Dp → ℕ → List ReportView → Option ℕ → Type 0
+UntestedGives dp i rs None = AreTested dp rs
+UntestedGives dp i rs (Some place) = IsFirstUntested dp i rs place
 
 -- whether the report is of the part with the number i, of this number of parts
 abbrev pub is_of_part : ℕ → ℕ → ReportView → Bool

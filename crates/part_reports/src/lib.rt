@@ -2,7 +2,7 @@
 //!
 //! A part is searched by itself. What its search has settled is told by a `PartReport`: which part it is, of which journal, and the best
 //! solution that was found. `join_reports` takes one report for each part. It trusts no value: each must be that of its decisions.
-//! `best_of_reports` gives the solution that has the joined value. The
+//! `best_of_reports` gives the solution that has the joined value. `first_untested` tests the solutions alone. The
 //! crate stands on `part_records` for what the parts are, and on `frontier_parts` for the greatest value.
 //!
 //! The functions without parameters are laws. Where reports are joined, and each tells what the search of its part has settled, the joined
@@ -27,3 +27,4 @@ pub use fault::ReportFault;
 pub use joining::join_reports;
 pub use laws::{reports_join, reports_join_from};
 pub use report::PartReport;
+pub use testing::first_untested;

@@ -1,15 +1,16 @@
 //! Whether there is a report of each part, with a value that its decisions have.
 
-ghost use Rattle.std.specs.Prelude.{◌≡◌, true, length, map, option_map, IsTrue};
+ghost use Rattle.std.specs.Prelude.{◌≡◌, true, length, map, option_map, IfOk, IsTrue};
 ghost use Rattle.std.specs.Str.{bytes_eq};
 ghost use Rattle.dp_model.specs.Solution.{SolutionGives};
 ghost use Rattle.journal_bytes.specs.Views.{incumbent_view};
-ghost use Rattle.part_reports.specs.Reports.{report_view, is_of_part, TestGives, FaultGives, FaultsGive};
+ghost use Rattle.part_reports.specs.Reports.{report_view, is_of_part, TestGives, FaultGives, FaultsGive, UntestedGives};
 
 use crate::fault::ReportFault;
 use crate::report::PartReport;
-use dp_model::{DpModel, walk};
+use dp_model::{DpModel, OutOfMemory, walk};
 use journal_bytes::Incumbent;
+use std::alloc::Global;
 
 /// Whether the report is of the part with this number, of this number of parts.
 fn is_of_part(of: usize, index: usize, report: &PartReport) -> bool
@@ -110,6 +111,47 @@ pub(crate) fn first_fault<M: DpModel>(
     while let [report, after @ ..] = rest {
         if let Some(fault) = fault_at(model, digest, of, place, report, row, spare) {
             return Some(fault);
+        }
+        place += 1;
+        rest = after;
+    }
+    None
+}
+
+/// The place of the first report whose decisions are no feasible solution with its value. `None` if there is no such report. The parts and
+/// the digests of the reports are not compared.
+///
+/// # Errors
+///
+/// `OutOfMemory` alone.
+pub fn first_untested<M: DpModel>(
+    alloc: Global,
+    model: &M,
+    reports: &[PartReport],
+) -> Result<Option<usize>, OutOfMemory>
+    ensures { IfOk result (UntestedGives (M.meaning (M.numbers model.now)) 0 (map report_view reports.now)) }
+{
+    let mut row = vec![in alloc; 0i64; model.words()]?;
+    let mut spare = vec![in alloc; 0i64; model.words()]?;
+    Ok(untested_at(model, reports, &mut row, &mut spare))
+}
+
+/// The same, with rows that have the cells of a state and are written over.
+fn untested_at<M: DpModel>(
+    model: &M,
+    reports: &[PartReport],
+    row: &mut [i64],
+    spare: &mut [i64],
+) -> Option<usize>
+    requires cells { length row.old ≡ (M.meaning (M.numbers model.now)).words }
+    requires spare_cells { length spare.old ≡ (M.meaning (M.numbers model.now)).words }
+    ensures { UntestedGives (M.meaning (M.numbers model.now)) 0 (map report_view reports.now) result }
+{
+    let mut rest = reports;
+    let mut place = 0;
+    while let [report, after @ ..] = rest {
+        if !is_tested(model, &report.best, row, spare) {
+            return Some(place);
         }
         place += 1;
         rest = after;

@@ -1,5 +1,5 @@
 -- A search that goes on from a journal.
-use Rattle.std.proofs.Common.{◌≡◌, ◌≤◌, ◌⊎◌, inl, inr, ℕ, ◌+◌, ℤ, pos, List, [], ◌∷◌, Bool, true, false, ◌&&◌, Option, None, is_some, IsSome, IfSome, IsTrue, Result, Ok, Err, IfOk, IfErr, Vec, Global, cond, refl, sym, subst, ap, arith, ◌∙◌, Some}
+use Rattle.std.proofs.Common.{◌≡◌, ◌≤◌, ◌⊎◌, inl, inr, ⊎_elim, ℕ, ◌+◌, ℤ, pos, List, [], ◌∷◌, Bool, true, false, ◌&&◌, Option, None, is_some, IsSome, IfSome, IsTrue, Result, Ok, Err, IfOk, IfErr, Vec, Global, cond, refl, sym, subst, ap, arith, ◌∙◌, Some}
 use Rattle.std.specs.Prelude.{MatchResult}
 use Rattle.std.specs.declared.alloc.AllocError.{AllocError}
 use Rattle.disk.specs.declared.disk.Disk.{Ghosts}
@@ -30,23 +30,27 @@ use Rattle.journal_replay.specs.Sound.{AreSound}
 use Rattle.journal_replay.proofs.Joined.{sound-restore-good}
 use Rattle.board.specs.View.{BoardView}
 use Rattle.search_workers.specs.declared.desk.Desk.{Desk}
+use Rattle.part_reports.specs.Reports.{AreTested, ReportView}
 use Rattle.problem_theory.specs.Theory.{Agrees, Theory}
 use Rattle.problems.specs.Theories.{theory_of}
 use Rattle.solver_report.specs.declared.answer.Answer.{Answer}
 use Rattle.solver_report.specs.declared.answer.Answer.TheVariants as answers
 use Rattle.solver_report.specs.declared.answer.Counts.{Counts}
 use Rattle.solver_report.specs.declared.answer.Outcome.{Outcome}
+use Rattle.solver_report.specs.declared.answer.Outcome.TheVariants as outcomes
 use Rattle.solver_report.specs.Report.{is_final}
 use Rattle.solver_words.specs.Possible.{MaySearch}
-use Rattle.answers.specs.Journals.{HasGoneOn, HasKept, HasOpened, IsUnwritten, LeavesResumed}
+use Rattle.answers.specs.Journals.{HasDiskFailed, HasGoneOn, HasKept, HasOpened, IsUnwritten, LeavesResumed}
 use Rattle.answers.specs.Kept.{GoesOn, GoesOnPart, going_on, MayBeAdded, MayFollow, Resumes, ResumesIn, ResumesJournal, ResumesPart, WasResumed, starts_in}
+use Rattle.answers.specs.Offers.{AreWorthAtMost, HasTaken, part_value, told_value}
 use Rattle.answers.specs.Outcomes.{HasSearched}
+use Rattle.answers.specs.PartSearches.{part_outcome}
 use Rattle.answers.specs.Over.{IsOver}
 use Rattle.solver_words.specs.declared.job.JobSettings.{JobSettings}
-use Rattle.answers.proofs.Journaled.{IsFound, at-first, ends-resumed, is-found, left-following, none-following, same-names, same-start, still-first, still-tells}
+use Rattle.answers.proofs.Journaled.{IsFound, at-first, ends-resumed, failed-later, is-found, left-following, none-following, same-names, same-start, still-first, still-tells}
 use Rattle.solver_cli.specs.Journals.{IsOpened, LeavesOpened, TouchesNothing}
 use Rattle.solver_cli.specs.Searches.{IsKeptOn, IsToldOn, KeepsSome, begins_with, or_memory, report_in}
-use Rattle.solver_cli.specs.Starts.{AreAsked, DoesNotGoOn, GoesOnFrom}
+use Rattle.solver_cli.specs.Starts.{AreAsked, DoesNotTake, GoesOnFrom}
 use Rattle.answers.proofs.Opened.{refused-not-disk}
 use Rattle.answers.proofs.PartSearches.{records_searched}
 use Rattle.solver_cli.proofs.Starts.{are-settings}
@@ -73,11 +77,11 @@ restored-good dp laws search settings records may asked accepted sound =
 
 -- the board that goes on is restored from its own settings
 pub first-restored : (dp : Dp) (search : JobSettings) (records : RecordsView) (board : BoardView) (desks : Vec Desk Global) → GoesOnFrom dp search records board desks → board.first ≡ restored_from board.first.settings (replay_of dp records.records)
-first-restored dp search records board desks on = on.ready.first ∙ (on.board ∙ ap (λ (x : BoardState). restored_from x.settings (replay_of dp records.records)) (sym on.ready.first))
+first-restored dp search records board desks on = on.fresh.first ∙ (on.board ∙ ap (λ (x : BoardState). restored_from x.settings (replay_of dp records.records)) (sym on.fresh.first))
 
 pub first-good : (dp : Dp) → IsLawful dp → (search : JobSettings) (records : RecordsView) (board : BoardView) (desks : Vec Desk Global) → MaySearch search → GoesOnFrom dp search records board desks → AreSound dp search.within records.records → IsGood dp board.first
 first-good dp laws search records board desks may on sound =
-    subst (IsGood dp) (sym (on.ready.first ∙ on.board)) (restored-good dp laws search board.board.settings records.records may on.ready.prepared.asked on.accepted sound)
+    subst (IsGood dp) (sym (on.fresh.first ∙ on.board)) (restored-good dp laws search board.board.settings records.records may on.fresh.ready.prepared.asked on.accepted sound)
 
 -- a search that goes on may be made within the distance of its journal
 pub may-go-on : (head : HeadView) (search asked : JobSettings) → search ≡ going_on head asked → IsDistance head.within → MaySearch asked → MaySearch search
@@ -87,24 +91,31 @@ may-go-on head search asked same near may = subst MaySearch (sym same) (record {
 coverless : (cover : Option ℕ) (final : Bool) → cover ≡ None → (is_some cover && final) ≡ false
 coverless cover final is = subst (λ c. (is_some c && final) ≡ false) (sym is) refl
 
+-- the value that is told of a part is that of its search
+same-value : (within : ℤ) (outcome : Outcome) → part_value (part_outcome within outcome) ≡ told_value outcome
+same-value within (outcomes.Proved found distance) = refl
+same-value within outcomes.Infeasible = refl
+same-value within (outcomes.Stopped stop incumbent bound) = refl
+
 -- an answer that comes with the disk as it was touches nothing
 pub untouched : {D : Type 0} (disk : D) (answer : Answer) → TouchesNothing disk disk answer
 untouched disk (answers.Journal e) = refl
 untouched disk answers.Width = refl
+untouched disk (answers.ReportsRefused e) = refl
 untouched disk answer = tt
 
 module _ {D : Type 0} (on : Ghosts D) where
   -- ---- a search that goes on
 
-  module _ (dp : Dp) (own : List ℕ → Option ℤ) (head : HeadView) (records : List RecordView) where
+  module _ (dp : Dp) (own : List ℕ → Option ℤ) (head : HeadView) (records : List RecordView) (offers : List ReportView) where
     -- what was told of it, by what was asked for
-    pub told-on : (search asked : JobSettings) → search ≡ going_on head asked → (now : D) → (ended : Result Told AllocError) → IfOk ended (λ told. IsToldOn on dp own head records search now told.0 told.1)
-        → IfOk (or_memory ended) (λ told. IsToldOn on dp own head records (going_on head asked) now told.0 told.1)
-    told-on search asked same now (Ok told) h = subst (λ (s : JobSettings). IsToldOn on dp own head records s now told.0 told.1) same h
+    pub told-on : (search asked : JobSettings) → search ≡ going_on head asked → (now : D) → (ended : Result Told AllocError) → IfOk ended (λ told. IsToldOn on dp own head records offers search now told.0 told.1)
+        → IfOk (or_memory ended) (λ told. IsToldOn on dp own head records offers (going_on head asked) now told.0 told.1)
+    told-on search asked same now (Ok told) h = subst (λ (s : JobSettings). IsToldOn on dp own head records offers s now told.0 told.1) same h
     told-on search asked same now (Err e) h = tt
 
     -- where nothing was told, for want of memory
-    pub or-refused : (why : RecordsView) (asked : JobSettings) (before now : D) (ended : Result Told AllocError) → IfErr (or_memory ended) (λ answer. DoesNotGoOn dp (going_on head asked) why answer × TouchesNothing before now answer)
+    pub or-refused : (why : RecordsView) (asked : JobSettings) (before now : D) (ended : Result Told AllocError) → IfErr (or_memory ended) (λ answer. DoesNotTake dp (going_on head asked) why offers answer × TouchesNothing before now answer)
     or-refused why asked before now (Ok told) = tt
     or-refused why asked before now (Err e) = (tt, tt)
 
@@ -126,67 +137,76 @@ module _ {D : Type 0} (on : Ghosts D) where
             same_names = same-names on dp b made now tail k.keeps.same k.keeps.kept;
           }
 
-      pub gone-on : (now : D) (f : BoardState) → AreAccepted dp records → f ≡ restored_from f.settings (replay_of dp records) → (AreSound dp head.within records → IsGood dp f) → (ended : Result Told AllocError)
-          → IfOk ended (λ told. HasSearched dp own (λ settings. f) (IsGood dp f) search (IsKeptOn on dp true made now) told.0 told.1) → IfOk ended (λ told. IsToldOn on dp own head records search now told.0 told.1)
-      gone-on now f accepted is good (Ok told) h = (
+      -- where the disk has failed since the making, it has failed after the first sync
+      disk-failed : (now : D) (b : BoardState) → IsKeptOn on dp true made now b → Rose (on.faults made) (on.faults now) → HasDiskFailed on now
+      disk-failed now b k rose = failed-later on (on.start made) (on.start now) (on.faults made) (on.faults now) (same-start on dp b made now k.tail k.same k.kept opened.synced) opened.synced opened.counted rose
+
+      pub gone-on : (now : D) (f : BoardState) → AreAccepted dp records → AreTested dp offers → f ≡ restored_from f.settings (replay_of dp records) → (AreSound dp head.within records → IsGood dp f) → (ended : Result Told AllocError)
+          → IfOk ended (λ told. AreWorthAtMost offers (told_value told.0) ⊎ Rose (on.faults made) (on.faults now))
+          → IfOk ended (λ told. HasSearched dp own (λ settings. f) (IsGood dp f) search (IsKeptOn on dp true made now) told.0 told.1) → IfOk ended (λ told. IsToldOn on dp own head records offers search now told.0 told.1)
+      gone-on now f accepted tested is good (Ok told) taken h = (
         accepted,
+        record { tested = tested; taken = ⊎_elim (λ most. inl most) (λ rose. inr (disk-failed now h.board h.keeps rose)) taken },
         in-words dp own search f (λ settings. restored_from settings (replay_of dp records)) (AreSound dp head.within records) (IsKeptOn on dp true made now) (HasKept on dp head records (LeavesResumed on head records) now) is good
             (λ b over k. kept-resumed now f b over k) told.0 told.1 h,
       )
-      gone-on now f accepted is good (Err e) h = tt
+      gone-on now f accepted tested is good (Err e) taken h = tt
 
   -- a search that does not go on, by what was asked for
-  module _ (dp : Dp) (own : List ℕ → Option ℤ) (head : HeadView) (records : RecordsView) (asked : JobSettings) (now : D) where
-    told-why : (answer : Answer) → DoesNotGoOn dp (going_on head asked) records answer → GoesOn on dp own head records.records records.first asked now answer
+  module _ (dp : Dp) (own : List ℕ → Option ℤ) (head : HeadView) (records : RecordsView) (offers : List ReportView) (asked : JobSettings) (now : D) where
+    told-why : (answer : Answer) → DoesNotTake dp (going_on head asked) records offers answer → GoesOn on dp own head records.records records.first offers asked now answer
     told-why answers.Width h = h
     told-why (answers.Journal e) h = h
+    told-why (answers.ReportsRefused e) h = h
     told-why answers.OutOfMemory h = tt
     told-why answer h = absurd h
 
-    told-why-part : (part : Part) (starts : List (List ℕ)) (answer : Answer) → DoesNotGoOn dp (going_on head asked) records answer → GoesOnPart on dp own part starts head records.records records.first asked now answer
+    told-why-part : (part : Part) (starts : List (List ℕ)) (answer : Answer) → DoesNotTake dp (going_on head asked) records offers answer → GoesOnPart on dp own part starts head records.records records.first offers asked now answer
     told-why-part part starts answers.Width h = h
     told-why-part part starts (answers.Journal e) h = h
+    told-why-part part starts (answers.ReportsRefused e) h = h
     told-why-part part starts answers.OutOfMemory h = tt
     told-why-part part starts answer h = absurd h
 
   -- ---- the journal of a whole search, or of a part
 
   -- a journal that a search does not begin with is refused at its first record
-  pub not-begun : (dp : Dp) (own : List ℕ → Option ℤ) (part : Option Part) (head : HeadView) (records : List RecordView) (first : ℕ) (asked : JobSettings) (now : D) → begins_with part records ≡ false
-      → ResumesIn on dp own part head records first asked now (answers.Journal (errors.Malformed first))
-  not-begun dp own None head records first asked now never = absurd (cc)
-  not-begun dp own (Some part) head [] first asked now never = refl
-  not-begun dp own (Some part) head (r ∷ rs) first asked now never =
-      subst (λ b. ResumesPart on dp own part (cond b (Some (starts_of r)) None) head (r ∷ rs) first asked now (answers.Journal (errors.Malformed first))) (sym never) refl
+  pub not-begun : (dp : Dp) (own : List ℕ → Option ℤ) (part : Option Part) (head : HeadView) (records : List RecordView) (first : ℕ) (offers : List ReportView) (asked : JobSettings) (now : D) → begins_with part records ≡ false
+      → ResumesIn on dp own part head records first offers asked now (answers.Journal (errors.Malformed first))
+  not-begun dp own None head records first offers asked now never = absurd (cc)
+  not-begun dp own (Some part) head [] first offers asked now never = refl
+  not-begun dp own (Some part) head (r ∷ rs) first offers asked now never =
+      subst (λ b. ResumesPart on dp own part (cond b (Some (starts_of r)) None) head (r ∷ rs) first offers asked now (answers.Journal (errors.Malformed first))) (sym never) refl
 
   -- what was told of a search that goes on, or why it does not
-  module _ (dp : Dp) (laws : IsLawful dp) (own : List ℕ → Option ℤ) (agrees : Agrees dp own) (head : HeadView) (records : RecordsView) (asked : JobSettings) (may : MaySearch (going_on head asked)) (plain : asked.cover_words ≡ None) (before now : D) where
+  module _ (dp : Dp) (laws : IsLawful dp) (own : List ℕ → Option ℤ) (agrees : Agrees dp own) (head : HeadView) (records : RecordsView) (offers : List ReportView) (asked : JobSettings) (may : MaySearch (going_on head asked)) (plain : asked.cover_words ≡ None) (before now : D) where
     abbrev Told-by : Result Told Answer → Type 0
-    Told-by ended = IfOk ended (λ told. IsToldOn on dp own head records.records (going_on head asked) now told.0 told.1)
+    Told-by ended = IfOk ended (λ told. IsToldOn on dp own head records.records offers (going_on head asked) now told.0 told.1)
 
     abbrev Refused-by : Result Told Answer → Type 0
-    Refused-by ended = IfErr ended (λ answer. DoesNotGoOn dp (going_on head asked) records answer × TouchesNothing before now answer)
+    Refused-by ended = IfErr ended (λ answer. DoesNotTake dp (going_on head asked) records offers answer × TouchesNothing before now answer)
 
-    in-whole : (ended : Result Told Answer) → Told-by ended → Refused-by ended → GoesOn on dp own head records.records records.first asked now (report_in None head.within ended)
+    in-whole : (ended : Result Told Answer) → Told-by ended → Refused-by ended → GoesOn on dp own head records.records records.first offers asked now (report_in None head.within ended)
     in-whole (Ok told) h why = (h, coverless asked.cover_words (is_final told.0) plain)
-    in-whole (Err answer) h why = told-why dp own head records asked now answer why.0
+    in-whole (Err answer) h why = told-why dp own head records offers asked now answer why.0
 
     in-part : (part : Part) (starts : List (List ℕ)) (ended : Result Told Answer) → Told-by ended → Refused-by ended
-        → GoesOnPart on dp own part starts head records.records records.first asked now (report_in (Some part) head.within ended)
+        → GoesOnPart on dp own part starts head records.records records.first offers asked now (report_in (Some part) head.within ended)
     in-part part starts (Ok told) h why =
-        (refl, (h.0, records_searched dp laws own agrees (going_on head asked) may records.records h.0 starts (AreSound dp head.within records.records) (HasKept on dp head records.records (LeavesResumed on head records.records) now) told.0 told.1 h.1))
-    in-part part starts (Err answer) h why = told-why-part dp own head records asked now part starts answer why.0
+        (refl, (h.0, subst (HasTaken (HasDiskFailed on now) dp offers) (sym (same-value head.within told.0)) h.1.0,
+        records_searched dp laws own agrees (going_on head asked) may records.records h.0 starts (AreSound dp head.within records.records) (HasKept on dp head records.records (LeavesResumed on head records.records) now) told.0 told.1 h.1.1))
+    in-part part starts (Err answer) h why = told-why-part dp own head records offers asked now part starts answer why.0
 
     begun-part : (part : Part) (ended : Result Told Answer) (rs : List RecordView) → begins_with (Some part) rs ≡ true
-        → ((starts : List (List ℕ)) → GoesOnPart on dp own part starts head records.records records.first asked now (report_in (Some part) head.within ended))
-        → ResumesPart on dp own part (starts_in rs) head records.records records.first asked now (report_in (Some part) head.within ended)
+        → ((starts : List (List ℕ)) → GoesOnPart on dp own part starts head records.records records.first offers asked now (report_in (Some part) head.within ended))
+        → ResumesPart on dp own part (starts_in rs) head records.records records.first offers asked now (report_in (Some part) head.within ended)
     begun-part part ended [] begun goes = absurd (cc)
     begun-part part ended (r ∷ rs) begun goes =
-        subst (λ b. ResumesPart on dp own part (cond b (Some (starts_of r)) None) head records.records records.first asked now (report_in (Some part) head.within ended)) (sym begun) (goes (starts_of r))
+        subst (λ b. ResumesPart on dp own part (cond b (Some (starts_of r)) None) head records.records records.first offers asked now (report_in (Some part) head.within ended)) (sym begun) (goes (starts_of r))
 
     -- the answer to it
     pub resumes-in : (part : Option Part) (ended : Result Told Answer) → begins_with part records.records ≡ true → Told-by ended → Refused-by ended
-        → ResumesIn on dp own part head records.records records.first asked now (report_in part head.within ended)
+        → ResumesIn on dp own part head records.records records.first offers asked now (report_in part head.within ended)
     resumes-in None ended begun told why = in-whole ended told why
     resumes-in (Some part) ended begun told why = begun-part part ended records.records begun (λ starts. in-part part starts ended told why)
 
@@ -216,61 +236,62 @@ module _ {D : Type 0} (on : Ghosts D) where
   }
 
   -- it is not refused for the disk
-  not-for-disk : (j : JournalView) (first : ℕ) (search : JobSettings) (now : D) → ResumesJournal on j first search now (answers.Journal errors.Disk) → ⊥
-  not-for-disk j first search now h = never ((theory_of j.head.model).spelled j.head.text) h
+  not-for-disk : (j : JournalView) (first : ℕ) (offers : List ReportView) (search : JobSettings) (now : D) → ResumesJournal on j first offers search now (answers.Journal errors.Disk) → ⊥
+  not-for-disk j first offers search now h = never ((theory_of j.head.model).spelled j.head.text) h
     where
-      for-part : (dp : Dp) (own : List ℕ → Option ℤ) (part : Part) (starts : Option (List (List ℕ))) → ResumesPart on dp own part starts j.head j.records first search now (answers.Journal errors.Disk) → ⊥
+      for-part : (dp : Dp) (own : List ℕ → Option ℤ) (part : Part) (starts : Option (List (List ℕ))) → ResumesPart on dp own part starts j.head j.records first offers search now (answers.Journal errors.Disk) → ⊥
       for-part dp own part None same = cc
       for-part dp own part (Some starts) refused = refused-not-disk dp first j.records refused
 
-      in-dp : (dp : Dp) (own : List ℕ → Option ℤ) (part : Option Part) → ResumesIn on dp own part j.head j.records first search now (answers.Journal errors.Disk) → ⊥
+      in-dp : (dp : Dp) (own : List ℕ → Option ℤ) (part : Option Part) → ResumesIn on dp own part j.head j.records first offers search now (answers.Journal errors.Disk) → ⊥
       in-dp dp own None refused = refused-not-disk dp first j.records refused
       in-dp dp own (Some part) h = for-part dp own part (starts_in j.records) h
 
-      never : {E : Type 0} (r : Result (List ℤ) E) → MatchResult r (λ numbers. ResumesIn on ((theory_of j.head.model).program numbers) ((theory_of j.head.model).own_value numbers) j.head.part j.head j.records first search now (answers.Journal errors.Disk))
+      never : {E : Type 0} (r : Result (List ℤ) E) → MatchResult r (λ numbers. ResumesIn on ((theory_of j.head.model).program numbers) ((theory_of j.head.model).own_value numbers) j.head.part j.head j.records first offers search now (answers.Journal errors.Disk))
           (λ e. answers.Journal errors.Disk ≡ answers.Journal (errors.Malformed 0)) → ⊥
       never (Ok numbers) refused = in-dp ((theory_of j.head.model).program numbers) ((theory_of j.head.model).own_value numbers) j.head.part refused
       never (Err e) same = cc
 
-  module _ (search : JobSettings) (before made now : D) (Follow : List RecordView → Type 0) (r : Head × RecordsView × Tail) (opened : HasOpened on made (Ok r)) (began : IsSome (on.start made)) (left : LeavesOpened on Follow (head_view r.2.version r.0) r.1.records made now) where
-    was-resumed : (answer : Answer) → ResumesJournal on (journal_view r) r.1.first search now answer → WasResumed on search now answer
+  module _ (offers : List ReportView) (search : JobSettings) (before made now : D) (Follow : List RecordView → Type 0) (r : Head × RecordsView × Tail) (opened : HasOpened on made (Ok r)) (began : IsSome (on.start made)) (left : LeavesOpened on Follow (head_view r.2.version r.0) r.1.records made now) where
+    was-resumed : (answer : Answer) → ResumesJournal on (journal_view r) r.1.first offers search now answer → WasResumed on offers search now answer
     was-resumed answer h = record {
       file = opened.file;
       began = subst (λ (o : Option FirstSync). IsSome o) (sym left.start) began;
       is_file = λ tells. still-first (on.start made) (on.start now) (on.found made) (on.seen made) (on.found now) (on.seen now) (λ s. s.content ≡ opened.file) began left.start (opened.is_file (subst IsTrue left.still_tells tells));
-      right = subst (λ x. MatchResult x (λ j. ResumesJournal on j (after_head (frames_of opened.file)) search now answer) (λ refusal. answer ≡ answers.Journal (error_of refusal))) (sym opened.opens)
-          (subst (λ first. ResumesJournal on (journal_view r) first search now answer) opened.first h);
+      right = subst (λ x. MatchResult x (λ j. ResumesJournal on j (after_head (frames_of opened.file)) offers search now answer) (λ refusal. answer ≡ answers.Journal (error_of refusal))) (sym opened.opens)
+          (subst (λ first. ResumesJournal on (journal_view r) first offers search now answer) opened.first h);
     }
 
-    resumed : IsUnwritten on made → (answer : Answer) → ResumesJournal on (journal_view r) r.1.first search now answer → TouchesNothing made now answer → Resumes on search before now answer
-    resumed unwritten (answers.Journal errors.Disk) h stays = absurd (not-for-disk (journal_view r) r.1.first search now h)
+    resumed : IsUnwritten on made → (answer : Answer) → ResumesJournal on (journal_view r) r.1.first offers search now answer → TouchesNothing made now answer → Resumes on offers search before now answer
+    resumed unwritten (answers.Journal errors.Disk) h stays = absurd (not-for-disk (journal_view r) r.1.first offers search now h)
     resumed unwritten (answers.Journal errors.OutOfMemory) h stays = tt
     resumed unwritten (answers.Journal e) h stays = (was-resumed (answers.Journal e) h, subst (IsUnwritten on) (sym stays) unwritten)
     resumed unwritten answers.Width h stays = (was-resumed answers.Width h, subst (IsUnwritten on) (sym stays) unwritten)
+    resumed unwritten (answers.ReportsRefused e) h stays = (was-resumed (answers.ReportsRefused e) h, subst (IsUnwritten on) (sym stays) unwritten)
     resumed unwritten answers.OutOfMemory h stays = tt
     resumed unwritten answer h stays = was-resumed answer h
 
     -- the answer to a journal that was opened
-    pub answered : IsUnwritten on made → (answer : Answer) → (answer ≡ answers.OutOfMemory) ⊎ ResumesJournal on (journal_view r) r.1.first search now answer → TouchesNothing made now answer → Resumes on search before now answer
-    answered unwritten answer (inl memory) stays = subst (Resumes on search before now) (sym memory) tt
+    pub answered : IsUnwritten on made → (answer : Answer) → (answer ≡ answers.OutOfMemory) ⊎ ResumesJournal on (journal_view r) r.1.first offers search now answer → TouchesNothing made now answer → Resumes on offers search before now answer
+    answered unwritten answer (inl memory) stays = subst (Resumes on offers search before now) (sym memory) tt
     answered unwritten answer (inr h) stays = resumed unwritten answer h stays
 
     -- and what is left of it
     pub is-found-still : IsFound on (head_view r.2.version r.0) r.1.records now
     is-found-still tells = still-first (on.start made) (on.start now) (on.found made) (on.seen made) (on.found now) (on.seen now) (λ s. HasRecords (head_view r.2.version r.0) r.1.records s.content) began left.start (is-found on made r opened (subst IsTrue left.still_tells tells))
 
-  module _ (search : JobSettings) (before now : D) where
-    was-refused : (e : JournalError) (refusal : Refusal) (opened : HasOpened on now (Err e)) → IsRefusal e → journal_of opened.file ≡ Err refusal → error_of refusal ≡ e → WasResumed on search now (answers.Journal e)
+  module _ (offers : List ReportView) (search : JobSettings) (before now : D) where
+    was-refused : (e : JournalError) (refusal : Refusal) (opened : HasOpened on now (Err e)) → IsRefusal e → journal_of opened.file ≡ Err refusal → error_of refusal ≡ e → WasResumed on offers search now (answers.Journal e)
     was-refused e refusal opened told read same = record {
       file = opened.file;
       began = opened.began told;
       is_file = opened.is_file;
-      right = subst (λ x. MatchResult x (λ j. ResumesJournal on j (after_head (frames_of opened.file)) search now (answers.Journal e)) (λ why. answers.Journal e ≡ answers.Journal (error_of why))) (sym read)
+      right = subst (λ x. MatchResult x (λ j. ResumesJournal on j (after_head (frames_of opened.file)) offers search now (answers.Journal e)) (λ why. answers.Journal e ≡ answers.Journal (error_of why))) (sym read)
           (ap (λ (x : JournalError). answers.Journal x) (sym same));
     }
 
     -- the answer to a file that is not opened
-    pub not-opened : (e : JournalError) → HasOpened on now (Err e) → (e ≡ errors.Disk → Rose (on.faults before) (on.faults now)) → IsUnwritten on now → Resumes on search before now (answers.Journal e)
+    pub not-opened : (e : JournalError) → HasOpened on now (Err e) → (e ≡ errors.Disk → Rose (on.faults before) (on.faults now)) → IsUnwritten on now → Resumes on offers search before now (answers.Journal e)
     not-opened errors.Disk opened rose unwritten = (rose refl, unwritten)
     not-opened errors.NotBegun opened rose unwritten = (was-refused errors.NotBegun bytes.NotBegun opened tt opened.opens refl, unwritten)
     not-opened errors.Exists opened rose unwritten = absurd opened.opens

@@ -4,8 +4,11 @@ pub mod Kept
 pub mod Searched
 pub mod Told
 pub mod Over
+pub mod Rising
+pub mod Offering
 pub mod Beginning
 pub mod GoingOn
+pub mod Offered
 pub mod Drawn
 pub mod Left
 pub mod Whole

@@ -1,5 +1,5 @@
 -- A board some rounds after the one that a search goes on from, from which no round can follow.
-use Rattle.std.proofs.Common.{◌≡◌, ℕ, ℤ, ◌≤◌, [], List, Option, is_some, Result, IfOk, Vec, Global, sym, ap, subst, ◌∙◌}
+use Rattle.std.proofs.Common.{◌≡◌, ℕ, ℤ, ◌≤◌, [], ◌++◌, List, Option, is_some, Result, IfOk, Vec, Global, sym, ap, subst, ◌∙◌}
 use Rattle.std.specs.declared.alloc.AllocError.{AllocError}
 use Rattle.disk.specs.declared.disk.Disk.{Ghosts}
 use Rattle.dp_model.specs.Counts.{tree}
@@ -7,6 +7,7 @@ use Rattle.dp_model.specs.Dp.{Dp}
 use Rattle.board_laws.specs.Board.{BoardState, full_slots}
 use Rattle.board_laws.specs.GoodBoard.{IsGood}
 use Rattle.board_laws.specs.declared.settings.Settings.{Settings}
+use Rattle.board_laws.proofs.Running.{run-follows, run-then}
 use Rattle.search_workers.specs.Later.{IsLater, NoRoundFollows, IsComplete}
 use Rattle.search_workers.specs.declared.desk.Desk.{Desk}
 use Rattle.kept_board.specs.View.{KeptView}
@@ -19,16 +20,19 @@ use Rattle.solver_cli.specs.Searches.{HasExplored, IsKeptOn}
 use Rattle.solver_cli.specs.Starts.{AreAsked, IsReadyFor}
 use Rattle.solver_cli.proofs.Told.{Told, if-told}
 
-is_over : (dp : Dp) (search : JobSettings) (first b : BoardState) → AreAsked dp search first.settings → full_slots first.slots ≡ [] → b.settings ≡ first.settings → IsLater dp first b → NoRoundFollows b → (IsGood dp first → IsComplete dp b) → IsOver dp search first b
-is_over dp search first b asked idle same later ended complete =
+-- a run from the first board to the one that a search goes on from, and then some rounds
+is_over : (dp : Dp) (search : JobSettings) (first start b : BoardState) → AreAsked dp search start.settings → full_slots start.slots ≡ [] → b.settings ≡ start.settings → IsLater dp first start → IsLater dp start b → NoRoundFollows b → (IsGood dp first → IsComplete dp b)
+    → IsOver dp search first b
+is_over dp search first start b asked idle same before later ended complete =
+    let asked_first = subst (AreAsked dp search) (run-follows dp first before.steps start before.run).settings asked in
     let budget : b.settings.budget ≡ search.budget = ap (λ (s : Settings). s.budget) same ∙ asked.budget in
     record {
-      steps = later.steps;
-      run = later.run;
-      wide = asked.wide;
-      crew = asked.crew;
-      budget = asked.budget;
-      distance = asked.distance;
+      steps = before.steps ++ later.steps;
+      run = run-then dp first start b before.steps later.steps before.run later.run;
+      wide = asked_first.wide;
+      crew = asked_first.crew;
+      budget = asked_first.budget;
+      distance = asked_first.distance;
       idle = ap full_slots later.slots ∙ idle;
       ended = ended;
       complete = λ good few. complete good (subst (λ n. tree dp ≤ n) (sym budget) few);
@@ -40,8 +44,8 @@ module _ {D : Type 0} (on : Ghosts D) (dp : Dp) (search : JobSettings) (first : 
 
   pub over : (desks : Vec Desk Global) → IsReadyFor dp search first.board desks → IsOver dp search b.first b.board
   over desks ready =
-      subst (λ (f : BoardState). IsOver dp search f b.board) (sym (same-first ∙ ready.first))
-      (is_over dp search first.board.board b.board ready.prepared.asked ready.idle (ap (λ (t : BoardTag). t.settings) e.tag) e.later e.ended (subst (λ (f : BoardState). IsGood dp f → IsComplete dp b.board) ready.first e.complete))
+      subst (λ (f : BoardState). IsOver dp search f b.board) (sym same-first)
+      (is_over dp search first.board.first first.board.board b.board ready.prepared.asked ready.idle (ap (λ (t : BoardTag). t.settings) e.tag) ready.later e.later e.ended e.complete)
 
   -- what is told of it is told of a search
   pub searched : (own : List ℕ → Option ℤ) → IsOver dp search b.first b.board → (ended : Result Told AllocError) → IfOk ended (λ told. IsConcluded dp own search b.first b.board told.0 told.1)

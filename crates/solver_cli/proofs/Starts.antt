@@ -21,7 +21,7 @@ use Rattle.solver_report.specs.declared.answer.Answer.{Answer}
 use Rattle.solver_report.specs.declared.answer.Answer.TheVariants as answers
 use Rattle.search_workers.specs.declared.desk.Desk.{Desk}
 use Rattle.solver_cli.specs.Desks.{AreAllDesks, AreCrew}
-use Rattle.solver_cli.specs.Starts.{AreAsked, ArePrepared, DoesNotGoOn, GoesOnFrom, HasBegun, IsReadyFor, IsUnready, settings_for, unprepared}
+use Rattle.solver_cli.specs.Starts.{AreAsked, ArePrepared, DoesNotGoOn, GoesOnFrom, HasBegun, IsFreshFor, IsUnready, settings_for, unprepared}
 use Rattle.dp_model.specs.Distances.{IsDistance}
 use Rattle.solver_cli.proofs.Widths.{refused}
 
@@ -51,11 +51,14 @@ module _ (dp : Dp) (search : JobSettings) where
   -- ---- with a board
 
   module _ (settings : Settings) (desks : Vec Desk Global) (prepared : ArePrepared dp search settings desks) (b : BoardView) (first : b.first ≡ b.board) where
-    ready : b.board.settings ≡ settings → full_slots b.board.slots ≡ [] → b.board.cause ≡ None → IsReadyFor dp search b desks
-    ready same idle going = record {
+    fresh : b.board.settings ≡ settings → full_slots b.board.slots ≡ [] → b.board.cause ≡ None → IsFreshFor dp search b desks
+    fresh same idle going = record {
+      ready = record {
+        later = record { steps = []; run = first; slots = ap (λ (x : BoardState). x.slots) (sym first) };
+        prepared = subst (λ (s : Settings). ArePrepared dp search s desks) (sym same) prepared;
+        idle = idle;
+      };
       first = first;
-      prepared = subst (λ (s : Settings). ArePrepared dp search s desks) (sym same) prepared;
-      idle = idle;
       going = going;
     }
 
@@ -64,7 +67,7 @@ module _ (dp : Dp) (search : JobSettings) where
     begun is good =
         let same : b.board.settings ≡ settings = ap (λ (x : BoardState). x.settings) is in
         record {
-          ready = ready same (ap (λ (x : BoardState). full_slots x.slots) is ∙ full-none settings.workers) (ap (λ (x : BoardState). x.cause) is);
+          fresh = fresh same (ap (λ (x : BoardState). full_slots x.slots) is ∙ full-none settings.workers) (ap (λ (x : BoardState). x.cause) is);
           board = is ∙ ap (first_board dp) (sym same);
           good = good;
         }
@@ -74,7 +77,7 @@ module _ (dp : Dp) (search : JobSettings) where
     goes-on records accepted is =
         let same : b.board.settings ≡ settings = ap (λ (x : BoardState). x.settings) is in
         record {
-          ready = ready same (ap (λ (x : BoardState). full_slots x.slots) is ∙ full-none settings.workers) (ap (λ (x : BoardState). x.cause) is);
+          fresh = fresh same (ap (λ (x : BoardState). full_slots x.slots) is ∙ full-none settings.workers) (ap (λ (x : BoardState). x.cause) is);
           accepted = accepted;
           board = is ∙ ap (λ (s : Settings). restored_from s (replay_of dp records.records)) (sym same);
         }

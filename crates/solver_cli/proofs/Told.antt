@@ -61,7 +61,7 @@ module _ (dp : Dp) (own : List ℕ → Option ℤ) (search : JobSettings) (f : B
 
 -- the first board of a search from the start
 pub first-is : (dp : Dp) (search : JobSettings) (board : BoardView) (desks : Vec Desk Global) → HasBegun dp search board desks → board.first ≡ first_board dp board.first.settings
-first-is dp search board desks begun = begun.ready.first ∙ (begun.board ∙ ap (λ (x : BoardState). first_board dp x.settings) (sym begun.ready.first))
+first-is dp search board desks begun = begun.fresh.first ∙ (begun.board ∙ ap (λ (x : BoardState). first_board dp x.settings) (sym begun.fresh.first))
 
 module _ {D : Type 0} (on : Ghosts D) where
   -- with no journal the disk is as it was

@@ -58,8 +58,9 @@ module _ {D : Type 0} (on : Ghosts D) where
     pub still_tells : on.tells now ≡ on.tells before
     pub same_names : on.names now ≡ on.names before
 
--- a journal is left as it was where it or the width is refused
+-- a journal is left as it was where it, the width or an offer is refused
 abbrev pub TouchesNothing : {D : Type 0} → D → D → Answer → Type 0
 TouchesNothing before now (answers.Journal e) = now ≡ before
 TouchesNothing before now answers.Width = now ≡ before
+TouchesNothing before now (answers.ReportsRefused e) = now ≡ before
 TouchesNothing before now _ = Unit {0}

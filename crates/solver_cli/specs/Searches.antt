@@ -18,8 +18,10 @@ use Rattle.journal_replay.specs.Replay.{replay_of, restored_from}
 use Rattle.journal_replay.specs.Sound.{AreSound}
 use Rattle.board.specs.View.{BoardView, tag_of}
 use Rattle.answers.specs.Answers.{IsReport}
-use Rattle.answers.specs.Journals.{HasKept, LeavesResumed}
+use Rattle.part_reports.specs.Reports.{ReportView}
+use Rattle.answers.specs.Journals.{HasDiskFailed, HasKept, LeavesResumed}
 use Rattle.answers.specs.Kept.{searched_part}
+use Rattle.answers.specs.Offers.{HasTaken, told_value}
 use Rattle.answers.specs.Outcomes.{HasSearched}
 use Rattle.answers.specs.PartSearches.{part_outcome}
 use Rattle.solver_words.specs.declared.job.JobSettings.{JobSettings}
@@ -50,9 +52,9 @@ module _ {D : Type 0} (on : Ghosts D) where
     pub complete : IsGood dp first.board.first → IsComplete dp b.board
     pub keeps : IsKeptOn dp (is_some first.tail) first.made now b.board
 
-  -- a search has gone on from records, which are accepted, within the distance of their head, and this is told of it
-  abbrev pub IsToldOn : Dp → (List ℕ → Option ℤ) → HeadView → List RecordView → JobSettings → D → Outcome → Option Counts → Type 0
-  IsToldOn dp own head records search now outcome counts = AreAccepted dp records
+  -- a search has gone on from records, which are accepted, within the distance of their head, after it has taken what is offered, and this is told of it
+  abbrev pub IsToldOn : Dp → (List ℕ → Option ℤ) → HeadView → List RecordView → List ReportView → JobSettings → D → Outcome → Option Counts → Type 0
+  IsToldOn dp own head records offers search now outcome counts = AreAccepted dp records × HasTaken (HasDiskFailed on now) dp offers (told_value outcome)
       × HasSearched dp own (λ settings. restored_from settings (replay_of dp records)) (AreSound dp head.within records) search
       (HasKept on dp head records (LeavesResumed on head records) now) outcome counts
 

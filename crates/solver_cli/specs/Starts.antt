@@ -1,5 +1,5 @@
 -- What a search needs beside the disk.
-use Rattle.std.specs.Prelude.{◌≡◌, ℕ, [], None, vec_len, Vec}
+use Rattle.std.specs.Prelude.{◌≡◌, ℕ, List, [], None, vec_len, Vec}
 use Rattle.std.specs.List.{All}
 use Rattle.std.specs.declared.alloc.Global.{Global}
 use Rattle.dp_model.specs.Dp.{Dp}
@@ -17,6 +17,9 @@ use Rattle.answers.specs.Widths.{IsRefusedWidth, IsSearchWidth}
 use Rattle.solver_words.specs.declared.job.JobSettings.{JobSettings}
 use Rattle.solver_report.specs.declared.answer.Answer.{Answer}
 use Rattle.solver_report.specs.declared.answer.Answer.TheVariants as answers
+use Rattle.part_reports.specs.Reports.{ReportView}
+use Rattle.answers.specs.Offers.{RefusesOffer}
+use Rattle.search_workers.specs.Later.{IsLater}
 use Rattle.search_workers.specs.Prepared.{IsPreparedDesk}
 use Rattle.search_workers.specs.declared.desk.Desk.{Desk}
 use Rattle.solver_cli.specs.Desks.{book_for}
@@ -41,22 +44,27 @@ pub record ArePrepared (dp : Dp) (search : JobSettings) (settings : Settings) (d
   pub books : All (λ (desk : Desk). desk.book ≡ book_for dp search) desks.items
   pub parts : All (λ (desk : Desk). desk.parts ≡ search.parts) desks.items
 
--- a board of which nothing is out and that no cause halts, as it was made, for which settings and desks are prepared
+-- a board of which nothing is out, as it was made or after a run, for which settings and desks are prepared
 pub record IsReadyFor (dp : Dp) (search : JobSettings) (b : BoardView) (desks : Vec Desk Global) : Type 0 where
-  pub first : b.first ≡ b.board
+  pub later : IsLater dp b.first b.board
   pub prepared : ArePrepared dp search b.board.settings desks
   pub idle : full_slots b.board.slots ≡ []
+
+-- and it is as it was made, and no cause halts it
+pub record IsFreshFor (dp : Dp) (search : JobSettings) (b : BoardView) (desks : Vec Desk Global) : Type 0 where
+  pub ready : IsReadyFor dp search b desks
+  pub first : b.first ≡ b.board
   pub going : b.board.cause ≡ None
 
 -- and it is the board at the start of a search, which is good
 pub record HasBegun (dp : Dp) (search : JobSettings) (b : BoardView) (desks : Vec Desk Global) : Type 0 where
-  pub ready : IsReadyFor dp search b desks
+  pub fresh : IsFreshFor dp search b desks
   pub board : b.board ≡ first_board dp b.board.settings
   pub good : IsGood dp b.first
 
 -- or it is the board that goes on from records, which are accepted
 pub record GoesOnFrom (dp : Dp) (search : JobSettings) (records : RecordsView) (b : BoardView) (desks : Vec Desk Global) : Type 0 where
-  pub ready : IsReadyFor dp search b desks
+  pub fresh : IsFreshFor dp search b desks
   pub accepted : AreAccepted dp records.records
   pub board : b.board ≡ restored_from b.board.settings (replay_of dp records.records)
 
@@ -75,3 +83,8 @@ IsUnready dp search _ = ⊥
 abbrev pub DoesNotGoOn : Dp → JobSettings → RecordsView → Answer → Type 0
 DoesNotGoOn dp search records (answers.Journal e) = AreRefused dp records.first records.records e
 DoesNotGoOn dp search records answer = IsUnready dp search answer
+
+-- the same where solutions are offered to it: so too, or the records are accepted and an offer is refused
+abbrev pub DoesNotTake : Dp → JobSettings → RecordsView → List ReportView → Answer → Type 0
+DoesNotTake dp search records offers (answers.ReportsRefused e) = AreAccepted dp records.records × RefusesOffer dp offers e
+DoesNotTake dp search records offers answer = DoesNotGoOn dp search records answer

@@ -1,4 +1,4 @@
-ghost use Rattle.std.specs.Prelude.{◌≡◌, map, string_bytes};
+ghost use Rattle.std.specs.Prelude.{◌≡◌, ◌⊎◌, None, map, string_bytes};
 ghost use Rattle.problem_names.specs.Parts.{IsPart};
 ghost use Rattle.problems.specs.Theories.{theory_of};
 ghost use Rattle.solver_words.specs.Possible.{IsPossible, MayDraw, MaySearch};
@@ -6,7 +6,7 @@ ghost use Rattle.solver_words.specs.Words.{job_view};
 ghost use Rattle.answers.specs.Answers.{DigestsText, Draws, SolvesPart, SolvesText};
 ghost use Rattle.answers.specs.Covers.{cover_limit};
 ghost use Rattle.answers.specs.Ended.{IsInputAnswer, IsJobAnswer, IsRight, LeavesOfSearch, readings, text_limit};
-ghost use Rattle.answers.specs.Kept.{RepliesKept};
+ghost use Rattle.answers.specs.Kept.{LeavesAfterResume, MayFollow, RepliesKept, ResumesOffered};
 ghost use Rattle.answers.specs.ReportsJoined.{JoinsReports, LeavesRead};
 ghost use Rattle.answers.specs.Splits.{Splits};
 
@@ -16,7 +16,9 @@ use crate::parting::part_text;
 use crate::replying::solve_text;
 use crate::resuming::resume;
 use crate::runner::Runner;
-use answers::{answer_cover, answer_parts, answer_reports, digest_text, split_journal, unread};
+use answers::{
+    answer_cover, answer_parts, answer_reports, digest_text, read_offers, split_journal, unread,
+};
 use disk::Disk;
 use problem_names::{ModelName, PartNumber};
 use problems::by_name;
@@ -82,7 +84,16 @@ fn answer_job<S: Source, D: Disk + Send, G: Gate + Sync, R: Threads + Wait + Syn
             part: Some(_),
             ..
         } => unreachable!(),
-        Job::Resume { path, settings } => resume(run, path.as_str(), settings, disk),
+        Job::Resume {
+            path,
+            settings,
+            incumbent: false,
+        } => resume(run, path.as_str(), settings, &[], disk),
+        Job::Resume {
+            path,
+            settings,
+            incumbent: true,
+        } => resume_input(run, path.as_str(), settings, input, disk),
         Job::Split { path, part } => split_named(run, path.as_str(), part, disk),
         Job::Check => (answer_cover(run.alloc, input), disk),
         Job::Join => (answer_parts(run.alloc, input), disk),
@@ -167,6 +178,25 @@ fn keep_input<S: Source, D: Disk + Send, G: Gate + Sync, R: Threads + Wait + Syn
             )
         }
         Err(error) => (unread(error), disk),
+    }
+}
+
+/// The answer to a search that goes on from the journal in the named file, after the solutions of the reports in the input were offered to it.
+fn resume_input<S: Source, D: Disk + Send, G: Gate + Sync, R: Threads + Wait + Sync>(
+    run: &Runner<'_, G, R>,
+    path: &str,
+    search: JobSettings,
+    input: &mut S,
+    disk: D,
+) -> (Answer, D)
+    requires may { MaySearch search }
+    requires coverless { search.cover_words ≡ None }
+    ensures answer { IsInputAnswer cover_limit (ResumesOffered D.Disk search disk result.1) (readings S.left S.faults input.old input.new) result.0 }
+    ensures left { (result.1 ≡ disk) ⊎ LeavesAfterResume D.Disk MayFollow path.now disk result.1 }
+{
+    match read_offers(run.alloc, input) {
+        Ok(offers) => resume(run, path, search, offers.as_slice(), disk),
+        Err(answer) => (answer, disk),
     }
 }
 

@@ -21,6 +21,7 @@ mod books;
 mod drawing;
 mod keeping;
 mod limits;
+mod offering;
 mod parting;
 mod replying;
 mod resuming;

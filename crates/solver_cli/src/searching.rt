@@ -1,11 +1,15 @@
 //! A search from a kept board on, to its conclusion.
 
-ghost use Rattle.std.specs.Prelude.{◌≡◌, ℕ, ℤ, List, [], Option, IfOk, IfErr, is_some, vec_len};
+ghost use Rattle.std.specs.Prelude.{◌≡◌, ℕ, ℤ, List, [], Option, Some, IfOk, IfErr, is_some, vec_len};
 ghost use Rattle.std.specs.List.{All};
-ghost use Rattle.board_laws.specs.Board.{full_slots};
+ghost use Rattle.board_laws.specs.Board.{full_slots, incumbent_value};
 ghost use Rattle.board_laws.specs.GoodBoard.{IsGood};
+ghost use Rattle.board_laws.specs.declared.cause.Cause.TheVariants.{Journal};
+ghost use Rattle.disk.specs.Counts.{Rose};
+ghost use Rattle.dp_model.specs.Numbers.{OptionAtMost};
 ghost use Rattle.problem_theory.specs.Theory.{Agrees};
 ghost use Rattle.search_workers.specs.Prepared.{IsPreparedDesk};
+ghost use Rattle.answers.specs.Offers.{told_value};
 ghost use Rattle.answers.specs.Outcomes.{HasSearched, IsConcluded};
 ghost use Rattle.answers.specs.Over.{IsOver};
 ghost use Rattle.solver_cli.specs.Searches.{HasExplored, IsKeptOn, KeepsSome};
@@ -69,6 +73,9 @@ pub fn search_from<M: DpModel, D: Disk + Send, G: Gate + Sync, R: Threads + Wait
     requires numbers { kept.board.numbers ≡ M.numbers model.now }
     requires ready { IsReadyFor (M.meaning (M.numbers model.now)) search kept.board desks.old }
     ensures searched { (own : List ℕ → Option ℤ) → Agrees (M.meaning (M.numbers model.now)) own → IfOk result.0 (λ told. HasSearched (M.meaning (M.numbers model.now)) own (λ _. kept.board.first) (IsGood (M.meaning (M.numbers model.now)) kept.board.first) search (IsKeptOn D.Disk (M.meaning (M.numbers model.now)) (is_some kept.tail) kept.made result.1) told.0 told.1) }
+    // A run never lowers the incumbent, and never ends the failure of a journal.
+    ensures rises { (own : List ℕ → Option ℤ) → Agrees (M.meaning (M.numbers model.now)) own → IfOk result.0 (λ told. OptionAtMost (incumbent_value kept.board.board) (told_value told.0)) }
+    ensures failed { kept.board.board.cause ≡ Some Journal → Rose (D.faults kept.made) (D.faults result.1) }
     ensures keeps { KeepsSome D.Disk (M.meaning (M.numbers model.now)) (is_some kept.tail) kept.made result.1 kept.board.board.settings }
     ensures prepared { All (IsPreparedDesk (M.meaning (M.numbers model.now)) kept.board.board.settings.width) desks.new.items }
 {

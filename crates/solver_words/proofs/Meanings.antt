@@ -227,8 +227,13 @@ module _ (m : ArgMatches) (arguments : List Argument) (reads : RowsTell resume_s
         (rw here (fails _ (settings_of (λ n. setting_of n arguments) (has_flag (codes "stats") arguments)) (refusal_of e)
         (moved (settings_of (first_value (found_of m)) stats) (settings_of (λ n. setting_of n arguments) (has_flag (codes "stats") arguments)) (refusal_of e) same_settings h)))
 
-    pub resume_all : (settings : JobSettings) → settings_of (first_value (found_of m)) stats ≡ Ok settings → resume_line arguments ≡ Ok (resume path settings)
-    resume_all settings d = let there = sym same_settings ∙ d in rw (here, there) refl
+    pub resume_all : (settings : JobSettings) → settings_of (first_value (found_of m)) stats ≡ Ok settings
+        → (offered : Bool) → ((b : Bool) → one_text (found_of m) (codes "incumbent") ≡ Some (cond b (codes "true") (codes "false")) → offered ≡ b)
+        → resume_line arguments ≡ Ok (resume path settings offered)
+    resume_all settings d offered wanted =
+        let there = sym same_settings ∙ d in
+        let asked_so = wanted (has_flag (codes "incumbent") arguments) (flag_read resume_syntax arguments m reads (codes "incumbent") refl) in
+        rw (here, there, asked_so) refl
 
 -- ---- split and join
 

@@ -31,7 +31,7 @@ abbrev pub resume_syntax : Syntax
 resume_syntax = record {
   positional = codes "path" ∷ [];
   valued = codes "width" ∷ codes "workers" ∷ codes "parts" ∷ codes "budget" ∷ codes "cutset" ∷ [];
-  flags = codes "stats" ∷ [];
+  flags = codes "incumbent" ∷ codes "stats" ∷ [];
 }
 
 abbrev pub split_syntax : Syntax
@@ -53,7 +53,7 @@ generate_syntax = record { positional = codes "model" ∷ codes "n" ∷ codes "s
 
 pub data JobView : Type 0 where
   solve : ModelName → JobSettings → Option Text → Option PartNumber → JobView
-  resume : Text → JobSettings → JobView
+  resume : Text → JobSettings → Bool → JobView
   split : Text → PartNumber → JobView
   check : JobView
   join : JobView
@@ -70,7 +70,7 @@ pub data Refusal : Type 0 where
 -- a job without what its texts hold of memory
 abbrev pub job_view : Job → JobView
 job_view (Solve name settings journal part) = solve name settings (option_map string_bytes journal) part
-job_view (Resume path settings) = resume (string_bytes path) settings
+job_view (Resume path settings offered) = resume (string_bytes path) settings offered
 job_view (Split path part) = split (string_bytes path) part
 job_view Check = check
 job_view Join = join
@@ -207,7 +207,7 @@ solve_of name value flag =
 
 abbrev pub resume_of : Option Text → (Text → Option Text) → (Text → Bool) → Result JobView Refusal
 resume_of None value flag = Err usage
-resume_of (Some path) value flag = and_then (λ settings. Ok (resume path settings)) (settings_of value (flag (codes "stats")))
+resume_of (Some path) value flag = and_then (λ settings. Ok (resume path settings (flag (codes "incumbent")))) (settings_of value (flag (codes "stats")))
 
 -- a split of a journal, of which a part has to be asked for
 abbrev pub split_by : Text → Option PartNumber → Result JobView Refusal

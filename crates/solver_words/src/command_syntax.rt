@@ -27,7 +27,7 @@ pub(crate) const SOLVE: CommandSyntax = CommandSyntax {
 pub(crate) const RESUME: CommandSyntax = CommandSyntax {
     positional: &["path"],
     valued: &["width", "workers", "parts", "budget", "cutset"],
-    flags: &["stats"],
+    flags: &["incumbent", "stats"],
 };
 
 pub(crate) const SPLIT: CommandSyntax = CommandSyntax {

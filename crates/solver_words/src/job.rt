@@ -35,10 +35,12 @@ pub enum Job {
         part: Option<PartNumber>,
     },
     /// Go on with the search whose journal is in the file `path`, within the distance of the journal: that of the settings is 0. No
-    /// cover is asked for.
+    /// cover is asked for. `incumbent` tells whether reports of settled parts are read in the input. Their solutions are offered to the
+    /// search before it goes on.
     Resume {
         path: String,
         settings: JobSettings,
+        incumbent: bool,
     },
     /// Print a part of the search that was stopped and whose journal is in the file `path`: a journal with which a search of the part
     /// goes on.

@@ -170,7 +170,12 @@ fn resume_job(alloc: Global, matches: &ArgMatches) -> Result<Job, WordsError>
     };
     let settings = read_settings(matches, is_given(matches, "stats"))?;
     let path = String::from_str(alloc, path)?;
-    Ok(Job::Resume { path, settings })
+    let incumbent = is_given(matches, "incumbent");
+    Ok(Job::Resume {
+        path,
+        settings,
+        incumbent,
+    })
 }
 
 fn read_split(alloc: Global, words: &[String]) -> Result<Job, WordsError>

@@ -2,7 +2,7 @@
 
 use journal_bytes::Incumbent;
 use knapsack::Knapsack;
-use part_reports::{PartReport, ReportFault, join_reports};
+use part_reports::{PartReport, ReportFault, first_untested, join_reports};
 use std::alloc::{AllocError, Global};
 use std::process::Abort;
 use std::test::Fail;
@@ -38,13 +38,19 @@ fn report(alloc: Global, told: &Told<'_>) -> Result<PartReport, AllocError> {
     })
 }
 
-/// What becomes of the reports beside an incumbent, for a journal of which each byte of the digest is 7.
-fn joined(rt: &impl Abort, alloc: Global, incumbent: Option<i64>, told: &[Told<'_>]) -> Joined {
-    let model = three_items(rt, alloc);
+/// The reports that tell this.
+fn reports(alloc: Global, told: &[Told<'_>]) -> Result<Vec<PartReport>, AllocError> {
     let mut reports = Vec::new(alloc);
     for one in told {
         reports.push(report(alloc, one)?)?;
     }
+    Ok(reports)
+}
+
+/// What becomes of the reports beside an incumbent, for a journal of which each byte of the digest is 7.
+fn joined(rt: &impl Abort, alloc: Global, incumbent: Option<i64>, told: &[Told<'_>]) -> Joined {
+    let model = three_items(rt, alloc);
+    let reports = reports(alloc, told)?;
     let found = join_reports(alloc, &model, &[7; 32], incumbent, reports.as_slice())?;
     Ok((found.value, found.place))
 }
@@ -116,6 +122,39 @@ fn the_first_wrong_report_is_told(rt: HostRuntime) -> Result<(), Fail> {
         assert_eq!(rt;
             joined(&rt, alloc, None, told),
             Err(want),
+            "{} reports",
+            told.len()
+        );
+    }
+    Ok(())
+}
+
+#[test]
+fn the_first_untested_solution_is_told(rt: HostRuntime) -> Result<(), Fail> {
+    let alloc = rt.alloc();
+    let model = three_items(&rt, alloc);
+    let best = Some((120, [0, 1, 1].as_slice()));
+    let less = Some((110, [1, 1, 0].as_slice()));
+    let heavy = Some((130, [1, 0, 1].as_slice()));
+    let short = Some((50, [0, 1].as_slice()));
+    let praised = Some((121, [0, 1, 1].as_slice()));
+    for (told, want) in [
+        ([].as_slice(), None),
+        (&[(0, 1, 7, None)], None),
+        // The parts and the journals may be any.
+        (&[(4, 5, 8, best), (4, 5, 9, less), (0, 2, 7, best)], None),
+        (&[(0, 1, 7, heavy)], Some(0)),
+        (&[(0, 1, 7, short)], Some(0)),
+        (&[(0, 2, 7, None), (1, 2, 7, praised)], Some(1)),
+        (
+            &[(0, 3, 7, best), (1, 3, 7, heavy), (2, 3, 7, praised)],
+            Some(1),
+        ),
+    ] {
+        let reports = reports(alloc, told)?;
+        assert_eq!(rt;
+            first_untested(alloc, &model, reports.as_slice()),
+            Ok(want),
             "{} reports",
             told.len()
         );

@@ -25,7 +25,7 @@ returns-in-Ok-clause-left g c =
 
 pub returns-in-Err-clause-solves : goal.returns-in-Err-clause-solves
 returns-in-Err-clause-solves g c =
-    let asked = c.requires.begun.ready.prepared.asked in (
+    let asked = c.requires.begun.fresh.ready.prepared.asked in (
       subst (λ ns. IsRefusedToBegin g.D.Disk (head_of g.P.Problem.theory c.args.name c.args.search.within ns) c.args.disk c.begin_journal.new.disk c.in-Err.error) (ap g.P.DpModel.numbers c.deref.ensures) c.in-Err.ensures.refused,
       (c.args.start.board.board.settings.width, asked.wide),
     )

@@ -1,6 +1,7 @@
-use Rattle.std.proofs.Common.{◌≡◌, refl, sym, subst, true, ◌∙◌}
+use Rattle.std.proofs.Common.{◌≡◌, map, refl, sym, subst, true, ◌∙◌}
 use Rattle.dp_model.specs.Laws.{IsLawful}
 use Rattle.journal_bytes.specs.Journal.{head_view}
+use Rattle.part_reports.specs.Reports.{report_view}
 use Rattle.problem_theory.specs.Theory.{Agrees}
 use Rattle.answers.specs.Kept.{MayBeAdded, ResumesIn, going_on}
 use Rattle.answers.proofs.Journaled.{none-follow}
@@ -29,9 +30,10 @@ returns-clause-resumes g c =
     let part = c.args.head.now.part in
     let head = head_view c.args.tail.version c.args.head.now in
     let records = c.args.records.now in
+    let offers = map report_view c.args.asked.offers.now in
     let ended = c.resume_search-ended.result.0 in
     let now = c.resume_search-ended.result.1 in
-    let may = may-go-on head (going_on head c.args.search) c.args.search refl c.requires.distance c.requires.may in
+    let may = may-go-on head (going_on head c.args.asked.search) c.args.asked.search refl c.requires.distance c.requires.may in
     let begun : begins_with part records.records ≡ true = sym c.begins_with.ensures ∙ c.if-not-begins_with.false in
-    subst (ResumesIn g.D.Disk dp own part head records.records records.first c.args.search now) (sym c.report_in.ensures)
-    (resumes-in g.D.Disk dp (laws_of g c.args.model) own (agrees_of g c.args.model) head records c.args.search may c.requires.coverless c.args.disk now part ended begun c.resume_search-ended.ensures.told c.resume_search-ended.ensures.refused)
+    subst (ResumesIn g.D.Disk dp own part head records.records records.first offers c.args.asked.search now) (sym c.report_in.ensures)
+    (resumes-in g.D.Disk dp (laws_of g c.args.model) own (agrees_of g c.args.model) head records offers c.args.asked.search may c.requires.coverless c.args.disk now part ended begun c.resume_search-ended.ensures.told c.resume_search-ended.ensures.refused)

@@ -14,4 +14,5 @@ returns-in_err-settings c = λ arguments reads.
 pub returns : goal.returns
 returns c = λ arguments reads.
     resume_all c.args.matches.now arguments reads c.in-Some.path.now c.in-Some.ensures c.is_given.result c.is_given.ensures c.in_ok-settings.settings c.in_ok-settings.ensures
-    ∙ ap (λ path. Ok (resume path c.in_ok-settings.settings)) (sym c.in_ok-path.ensures.ok)
+    c.is_given-incumbent.result c.is_given-incumbent.ensures
+    ∙ ap (λ path. Ok (resume path c.in_ok-settings.settings c.is_given-incumbent.result)) (sym c.in_ok-path.ensures.ok)
