@@ -11,7 +11,8 @@
 //! `specs/Splits.antt` define this.
 //!
 //! A search that keeps a journal begins it by `begin_journal`, or goes on from one that `open_journal` opened. What it may leave on
-//! its disk, and when its answer is right, is defined in `specs/Journals.antt` and `specs/Kept.antt`.
+//! its disk, and when its answer is right, is defined in `specs/Journals.antt` and `specs/Kept.antt`. `read_offers` reads the reports whose
+//! solutions are offered to a search before it goes on. What becomes of them is defined in `specs/Offers.antt`.
 //!
 //! It stands on `problems` for instances, on `parts` for parts of them, on `board` for the board of a search, on `disk` and `journal_file` for
 //! journals, on `journal_replay` and `kept_board` for what their records make, on `frontier_parts`, `part_records` and `part_files` for parts of a stopped search, on `bound_cover`, `cover_pages`, `cover_book` and

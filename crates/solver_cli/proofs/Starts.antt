@@ -1,5 +1,5 @@
 -- What a search needs beside the disk.
-use Rattle.std.proofs.Common.{◌≡◌, ℕ, ◌^◌, ◌≤◌, pos, ◌≤ℤ◌, [], None, Result, Ok, Err, IfErr, Vec, Global, refl, sym, ap, subst, ◌∙◌}
+use Rattle.std.proofs.Common.{◌≡◌, ℕ, ◌^◌, ◌≤◌, pos, ◌≤ℤ◌, List, [], None, Result, Ok, Err, IfErr, Vec, Global, refl, sym, ap, subst, ◌∙◌}
 use Rattle.std.specs.Result.{IsErrAnd}
 use Rattle.dp_model.specs.Dp.{Dp}
 use Rattle.dp_model.specs.Laws.{IsLawful}
@@ -19,9 +19,10 @@ use Rattle.answers.specs.Widths.{IsAskedWidth}
 use Rattle.solver_words.specs.declared.job.JobSettings.{JobSettings}
 use Rattle.solver_report.specs.declared.answer.Answer.{Answer}
 use Rattle.solver_report.specs.declared.answer.Answer.TheVariants as answers
+use Rattle.part_reports.specs.Reports.{ReportView}
 use Rattle.search_workers.specs.declared.desk.Desk.{Desk}
 use Rattle.solver_cli.specs.Desks.{AreAllDesks, AreCrew}
-use Rattle.solver_cli.specs.Starts.{AreAsked, ArePrepared, DoesNotGoOn, GoesOnFrom, HasBegun, IsFreshFor, IsUnready, settings_for, unprepared}
+use Rattle.solver_cli.specs.Starts.{AreAsked, ArePrepared, DoesNotGoOn, DoesNotTake, GoesOnFrom, HasBegun, IsFreshFor, IsUnready, settings_for, unprepared}
 use Rattle.dp_model.specs.Distances.{IsDistance}
 use Rattle.solver_cli.proofs.Widths.{refused}
 
@@ -91,3 +92,12 @@ module _ (dp : Dp) (search : JobSettings) where
   pub passed-on : {T : Type 0} (records : RecordsView) (answer : Answer) → IsUnready dp search answer → (r : Result T Answer) → IsErrAnd r (λ e. e ≡ answer) → IfErr r (DoesNotGoOn dp search records)
   passed-on records answer h (Ok x) same = tt
   passed-on records answer h (Err e) same = subst (DoesNotGoOn dp search records) (sym same) (does-not-go-on records answer h)
+
+  -- a search that does not go on takes nothing
+  does-not-take : (records : RecordsView) (offers : List ReportView) (answer : Answer) → DoesNotGoOn dp search records answer → DoesNotTake dp search records offers answer
+  does-not-take records offers (answers.ReportsRefused e) h = absurd h
+  does-not-take records offers answer h = h
+
+  pub passed-on-offered : {T : Type 0} (records : RecordsView) (offers : List ReportView) (answer : Answer) → DoesNotGoOn dp search records answer → (r : Result T Answer) → IsErrAnd r (λ e. e ≡ answer) → IfErr r (DoesNotTake dp search records offers)
+  passed-on-offered records offers answer h (Ok x) same = tt
+  passed-on-offered records offers answer h (Err e) same = subst (DoesNotTake dp search records offers) (sym same) (does-not-take records offers answer h)

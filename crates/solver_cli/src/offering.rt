@@ -63,13 +63,22 @@ fn offer_all<M: DpModel, D: Disk>(
 {
     let mut rest = reports;
     while let [report, after @ ..] = rest {
-        match offer(alloc, kept, report) {
-            Ok(()) => rest = after,
-            Err(KeptError::Journal) => return Ok(()),
-            Err(KeptError::OutOfMemory) => return Err(OutOfMemory),
+        if let Err(error) = offer(alloc, kept, report) {
+            return ended_by(error);
         }
+        rest = after;
     }
     Ok(())
+}
+
+/// How offers end with one whose record was not written. After a fault of the disk the search goes on, and finds itself halted.
+fn ended_by(error: KeptError) -> Result<(), OutOfMemory>
+    ensures { OnOk result (error ≡ KeptError.Journal) }
+{
+    match error {
+        KeptError::Journal => Ok(()),
+        KeptError::OutOfMemory => Err(OutOfMemory),
+    }
 }
 
 /// Offers the solutions of the reports to the board, and searches on as `search_from` does. Each solution that is offered is a feasible one

@@ -53,8 +53,8 @@ fn takes_offers<R: Abort + Threads + Wait + Sync>(
     rt: &R,
     alloc: Global,
     file: &[u8],
-    before: &str,
-    after: &str,
+    before: &'static str,
+    after: &'static str,
     status: u8,
 ) {
     let line = "resume j --budget 0";
@@ -88,8 +88,8 @@ fn a_part_takes_offers(rt: HostRuntime) {
         &rt,
         alloc,
         file.as_slice(),
-        "stopped budget\nvalue 110\nassignment 1 1 0\nbound 121\n",
-        "stopped budget\nvalue 120\nassignment 0 1 1\nbound 121\n",
+        "stopped budget\npart 0/1\njournal c0a464c295213b76a483de3c9e1cbaa128d9bd73832a4c59d1c64349302f9159\nvalue 110\nassignment 1 1 0\nbound 121\n",
+        "stopped budget\npart 0/1\njournal c0a464c295213b76a483de3c9e1cbaa128d9bd73832a4c59d1c64349302f9159\nvalue 120\nassignment 0 1 1\nbound 121\n",
         2,
     );
 }

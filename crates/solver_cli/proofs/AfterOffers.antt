@@ -1,5 +1,6 @@
 -- A kept board after offers, and what they are worth.
-use Rattle.std.proofs.Common.{◌≡◌, ◌≢◌, ◌⊎◌, inl, inr, ⊎_elim, ℕ, ℤ, List, [], ◌∷◌, ◌++◌, Bool, Option, Some, None, IsSome, is_some, Result, IfOk, Vec, Global, refl, sym, ap, subst, ◌∙◌}
+use Rattle.std.proofs.Common.{◌≡◌, ◌≢◌, ◌⊎◌, inl, inr, ⊎_elim, ℕ, ◌≤◌, ◌<◌, ℤ, List, [], ◌∷◌, ◌++◌, Bool, Option, Some, None, IsSome, is_some, Result, IfOk, Vec, Global, refl, sym, ap, subst, ◌∙◌, arith, drop, length, map}
+use Rattle.std.specs.Prelude.{get_or}
 use Rattle.std.specs.declared.alloc.AllocError.{AllocError}
 use Rattle.disk.specs.declared.disk.Disk.{Ghosts}
 use Rattle.disk.specs.Counts.{Rose}
@@ -19,9 +20,13 @@ use Rattle.board_laws.specs.declared.improved.Improved.TheVariants.{Yes, NotBett
 use Rattle.board_laws.proofs.Carrying.{option-self}
 use Rattle.board_laws.proofs.Running.{offer-runs, option-then, run-follows, run-then}
 use Rattle.kept_board.specs.Kept.{IsKept}
+use Rattle.kept_board.specs.Moves.{IsMove}
 use Rattle.kept_board.specs.View.{KeptView, tag_of}
+use Rattle.kept_board.specs.declared.error.KeptError.{KeptError}
+use Rattle.kept_board.specs.declared.error.KeptError.TheVariants as errors
 use Rattle.kept_board.specs.declared.tag.KeptTag.{KeptTag}
-use Rattle.part_reports.specs.Reports.{ReportView, value_told}
+use Rattle.part_reports.specs.Reports.{AreTested, ReportView, report_view, value_told}
+use Rattle.part_reports.specs.declared.report.PartReport.{PartReport}
 use Rattle.search_workers.specs.Later.{IsLater}
 use Rattle.search_workers.specs.declared.desk.Desk.{Desk}
 use Rattle.solver_words.specs.declared.job.JobSettings.{JobSettings}
@@ -73,11 +78,39 @@ pub worth-then : (offers : List ReportView) (a b : Option ℤ) → AreWorthAtMos
 worth-then [] a b h k = tt
 worth-then (r ∷ rs) a b h k = (option-then (value_told r) a b h.0 k, worth-then rs a b h.1 k)
 
+-- ---- offers one after another
+
+pub tested-next : {others : List PartReport} (dp : Dp) (rest : List PartReport) → others ≡ drop 1 rest → AreTested dp (map report_view rest) → AreTested dp (map report_view others)
+tested-next dp [] is h = subst (λ (rs : List PartReport). AreTested dp (map report_view rs)) (sym is) tt
+tested-next dp (q ∷ qs) is h = subst (λ (rs : List PartReport). AreTested dp (map report_view rs)) (sym is) h.1
+
+pub worth-next : {others : List PartReport} (rest : List PartReport) (r : PartReport) (value : Option ℤ) → others ≡ drop 1 rest → 1 ≤ length rest → r ≡ get_or rest 0 r → OptionAtMost (value_told (report_view r)) value → AreWorthAtMost (map report_view others) value
+    → AreWorthAtMost (map report_view rest) value
+worth-next [] r value is some at first more = absurd (omega (arith, some))
+worth-next (q ∷ qs) r value is some at first more = (subst (λ (x : PartReport). OptionAtMost (value_told (report_view x)) value) at first, subst (λ (rs : List PartReport). AreWorthAtMost (map report_view rs) value) is more)
+
+pub worth-none : (rest : List PartReport) (value : Option ℤ) → length rest < 1 → AreWorthAtMost (map report_view rest) value
+worth-none [] value few = tt
+worth-none (q ∷ qs) value few = absurd (omega (arith, few))
+
 -- ---- kept boards
 
 module _ {D : Type 0} (dp : Dp) where
   pub none-offered : (k : KeptView D) → IsAfterOffers dp k k
   none-offered k = record { later = later-self dp k.board.board k.board.board refl; tag = refl; made = refl; has = refl }
+
+  -- after one offer
+  pub after-offer : (on : Ghosts D) (meaning : List ℤ → Dp) (who : ℕ) (before now : KeptView D) → IsLater dp before.board.board now.board.board → tag_of now ≡ tag_of before → IsMove on meaning before now who → IsAfterOffers dp before now
+  after-offer on meaning who before now later tag move = record { later = later; tag = tag; made = move.made; has = move.has }
+
+  -- or one that was not taken
+  pub not-offered : (before now : KeptView D) (error : KeptError) → (error ≡ errors.Journal → now.board.board ≡ halted before.board.board Journal) → (error ≡ errors.OutOfMemory → now ≡ before) → IsLater dp before.board.board now.board.board
+  not-offered before now errors.Journal halts same = failed dp before.board.board now.board.board (halts refl)
+  not-offered before now errors.OutOfMemory halts same = later-self dp before.board.board now.board.board (ap (λ (k : KeptView D). k.board.board) (same refl))
+
+  -- a journal that was going still is
+  pub still-going : (before now : KeptView D) → IsAfterOffers dp before now → now.board.board.cause ≡ before.board.board.cause → (IsSome before.tail → before.board.board.cause ≢ Some Journal) → IsSome now.tail → now.board.board.cause ≢ Some Journal
+  still-going before now after same going some = λ stopped. going (sym after.has ∙ some) (sym same ∙ stopped)
 
   pub offers-then : (a b c : KeptView D) → IsAfterOffers dp a b → IsAfterOffers dp b c → IsAfterOffers dp a c
   offers-then a b c h k = record {
@@ -86,6 +119,14 @@ module _ {D : Type 0} (dp : Dp) where
     made = k.made ∙ h.made;
     has = k.has ∙ h.has;
   }
+
+-- offers after others, by the numbers of the first board
+pub more-offers : {D : Type 0} (meaning : List ℤ → Dp) (a b c : KeptView D) → IsAfterOffers (meaning a.board.numbers) a b → IsAfterOffers (meaning b.board.numbers) b c → IsAfterOffers (meaning a.board.numbers) a c
+more-offers {D} meaning a b c h k = offers-then (meaning a.board.numbers) a b c h (subst (λ n. IsAfterOffers (meaning n) b c) (ap (λ (t : KeptTag D). t.board.numbers) h.tag) k)
+
+-- the incumbent after offers is no worse
+pub better-after : {D : Type 0} (dp : Dp) (before now : KeptView D) → IsAfterOffers dp before now → OptionAtMost (incumbent_value before.board.board) (incumbent_value now.board.board)
+better-after dp before now after = (run-follows dp before.board.board after.later.steps now.board.board after.later.run).better
 
 module _ {D : Type 0} (meaning : List ℤ → Dp) (ns : List ℤ) (before now : KeptView D) (at : before.board.numbers ≡ ns) (after : IsAfterOffers (meaning before.board.numbers) before now) where
   later : IsLater (meaning ns) before.board.board now.board.board
