@@ -16,6 +16,7 @@ ABOUT = "exact discrete maximisation by branch and bound on decision diagrams"
 SYNOPSIS = (
     "solve MODEL [OPTION]..",
     "resume FILE [OPTION]..",
+    "resume FILE --incumbent [OPTION]..",
     "check",
     "join",
     "split FILE --part I/K",

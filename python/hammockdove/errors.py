@@ -62,7 +62,7 @@ class CoverRefused(Refused):
 
 
 class ReportRefused(Refused):
-    """The text that `join` was given is not the reports of settled parts. Its fields are those of `InstanceRefused`."""
+    """The text that `join`, or a search that goes on, was given is not the reports of settled parts. Its fields are those of `InstanceRefused`."""
 
     def __init__(self, answer: str, status: int, fault: str, line: int, column: int) -> None:
         self.fault, self.line, self.column = fault, line, column
@@ -70,10 +70,11 @@ class ReportRefused(Refused):
 
 
 class ReportsRefused(Refused):
-    """The reports are not those of all parts of the journal, in order.
+    """The reports are not those of all parts of the journal, in order, or one tells a solution that is none.
 
     `index` is the place of the first report at fault, from 0. `cause` is `order` if another part or none stands there, `journal` if it is of
-    another journal, `distance` if it is within another distance, and `value` if its assignment does not have its value.
+    another journal, `distance` if it is within another distance, and `value` if its assignment does not have its value. Of reports that a
+    search is given when it goes on, only the value is tested.
     """
 
     def __init__(self, answer: str, status: int, cause: str, index: int) -> None:
@@ -82,7 +83,7 @@ class ReportsRefused(Refused):
 
 
 class InputTooLong(Refused):
-    """The input is longer than what the program reads: 2^26 bytes, or 2^28 bytes for `check` and `join`; or a part does not fit in a journal."""
+    """The input is longer than what the program reads: 2^26 bytes, or 2^28 bytes for `check`, `join` and `resume`; or a part does not fit in a journal."""
 
 
 class UnknownProblem(Refused):

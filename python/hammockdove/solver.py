@@ -36,6 +36,9 @@ PROGRAM = "HAMMOCKDOVE"
 Text = tuple[str, str | bytes]
 """A problem's name and the text of an instance, for those who have a file."""
 
+Report = PartResult | bytes | str
+"""What was reported of a settled part: its result, or what the program printed."""
+
 _POLL = 0.05
 
 
@@ -126,13 +129,21 @@ class Solver:
         width: int | None = None,
         cutset: Literal["lel", "frontier"] | None = None,
         budget: int | None = None,
+        incumbents: Iterable[Report] = (),
         progress: Callable[[Progress], object] | None = None,
         every: float = 1.0,
     ) -> Result:
-        """Goes on with the whole search of a journal. Options and errors are those of `solve`; the journal stays."""
+        """Goes on with the whole search of a journal. Options and errors are those of `solve`; the journal stays.
+
+        `incumbents` are reports of settled parts of any search of the instance, in any order. The search goes on from the best of their
+        solutions if its own is worse, and the journal keeps that solution. The program tests each of them, and refuses all if one is no
+        feasible solution with its value.
+        """
         _require_whole(journal)
-        words = ["resume", str(journal), *_options(workers=workers, parts=parts, width=width, cutset=cutset, budget=budget), "--stats"]
-        result = self._search(words, b"", Path(journal), timeout, progress, every)
+        offers = _offers_of(incumbents)
+        options = _options(workers=workers, parts=parts, width=width, cutset=cutset, budget=budget)
+        words = ["resume", str(journal), *offers.words, *options, "--stats"]
+        result = self._search(words, offers.given, Path(journal), timeout, progress, every)
         return replace(result, within=_distance_of(Path(journal)))
 
     def status(self, journal: str | Path) -> Result:
@@ -165,17 +176,21 @@ class Solver:
         width: int | None = None,
         cutset: Literal["lel", "frontier"] | None = None,
         budget: int | None = None,
+        incumbents: Iterable[Report] = (),
         progress: Callable[[Progress], object] | None = None,
         every: float = 1.0,
     ) -> PartResult:
         """Goes on with the part of a search in a journal that `split` gave. Options and errors are those of `resume`; the journal stays.
 
-        With `budget=0` it tells what the part has found so far. Ctrl-C raises `PartInterrupted`.
+        With `budget=0` it tells what the part has found so far. Ctrl-C raises `PartInterrupted`. A part that begins late gets the reports of
+        the parts that are settled by then as `incumbents`.
         """
         _require_part(journal)
-        words = ["resume", str(journal), *_options(workers=workers, parts=parts, width=width, cutset=cutset, budget=budget), "--stats"]
+        offers = _offers_of(incumbents)
+        options = _options(workers=workers, parts=parts, width=width, cutset=cutset, budget=budget)
+        words = ["resume", str(journal), *offers.words, *options, "--stats"]
         began = time.monotonic()
-        text, status, stop = self._wait_for(words, b"", Path(journal), timeout, progress, every)
+        text, status, stop = self._wait_for(words, offers.given, Path(journal), timeout, progress, every)
         if stop is not None:
             text, status = self._run(["resume", str(journal), "--budget", "0"], b"")
         result = replace(part_result_of(text, status), journal=Path(journal), within=_distance_of(Path(journal)), seconds=time.monotonic() - began)
@@ -185,7 +200,7 @@ class Solver:
             raise PartInterrupted(result)
         return result
 
-    def join_parts(self, journal: str | Path, reports: Iterable[PartResult | bytes | str]) -> Result | PartResult:
+    def join_parts(self, journal: str | Path, reports: Iterable[Report]) -> Result | PartResult:
         """What the settled parts of a journal that was split prove together.
 
         `reports` are those of all parts, in order: results of `resume_part`, or what the program printed. It is a `Result` for the whole
@@ -194,8 +209,7 @@ class Solver:
         """
         _require(journal)
         began = time.monotonic()
-        given = b"".join(it.text if isinstance(it, PartResult) else it.encode() if isinstance(it, str) else it for it in reports)
-        text, status = self._run(["join", "--journal", str(journal)], given)
+        text, status = self._run(["join", "--journal", str(journal)], _text_of_reports(reports))
         more = {"journal": Path(journal), "seconds": time.monotonic() - began}
         if is_of_part(text):
             return replace(part_result_of(text, status), **more)
@@ -370,6 +384,25 @@ def _text_of(instance: Instance | Text) -> tuple[str, bytes]:
         return instance.model, instance.text().encode()
     model, text = instance
     return model, text.encode() if isinstance(text, str) else text
+
+
+def _text_of_reports(reports: Iterable[Report]) -> bytes:
+    """Reports one after another, as the program reads them."""
+    return b"".join(it.text if isinstance(it, PartResult) else it.encode() if isinstance(it, str) else it for it in reports)
+
+
+@dataclass(frozen=True)
+class _Offers:
+    """The words that offer solutions to a search, and what the program then reads."""
+
+    words: tuple[str, ...] = ()
+    given: bytes = b""
+
+
+def _offers_of(incumbents: Iterable[Report]) -> _Offers:
+    """The offers of these reports. Without a report the program reads nothing."""
+    reports = list(incumbents)
+    return _Offers(("--incumbent",), _text_of_reports(reports)) if reports else _Offers()
 
 
 def _options(**given: object) -> list[str]:

@@ -18,11 +18,21 @@ PROGRAM = os.environ.get("HAMMOCKDOVE") or (str(BUILT) if os.access(BUILT, os.X_
 
 needs_program = unittest.skipUnless(PROGRAM, "no program is built: rt ci builds it, or HAMMOCKDOVE names it")
 
+def _has_words(*words):
+    """Whether the program has these words."""
+    with tempfile.TemporaryDirectory() as room:
+        ran = subprocess.run([PROGRAM, *words], cwd=room, stdin=subprocess.DEVNULL, stdout=subprocess.PIPE, check=False)
+        return ran.stdout != b"words usage\n"
+
+
 def can_split():
     """Whether the program has the words of parts of a search."""
-    with tempfile.TemporaryDirectory() as room:
-        words = [PROGRAM, "split", "none", "--part", "0/1"]
-        return PROGRAM is not None and subprocess.run(words, cwd=room, capture_output=True, check=False).stdout != b"words usage\n"
+    return PROGRAM is not None and _has_words("split", "none", "--part", "0/1")
+
+
+def takes_incumbents():
+    """Whether a search of the program that goes on takes the solutions of reports."""
+    return PROGRAM is not None and _has_words("resume", "none", "--incumbent")
 
 
 TEXT = b"3 10\n60 5\n50 4\n70 6\n"

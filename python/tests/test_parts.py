@@ -3,11 +3,12 @@
 import unittest
 from unittest import mock
 
-from support import ProgramCase, RoomCase, bytes_of, can_split, needs_program, part_of_search, small_search
+from support import ProgramCase, RoomCase, bytes_of, can_split, needs_program, part_of_search, small_search, takes_incumbents
 
 import hammockdove.journal
 from hammockdove import (
     HammockdoveError,
+    InputTooLong,
     JournalRefused,
     Knapsack,
     NotBegun,
@@ -45,7 +46,7 @@ class RecordedTests(RoomCase):
         script = self.room / "program"
         script.write_text(
             f"#!/bin/sh\necho \"$@\" >>'{self.room}/words'\ncase \"$*\" in *'--budget 0') ;; *) {wait or ':'} ;; esac\n"
-            f"[ \"$1\" != join ] || cat >'{self.room}/input'\ncat '{self.room}/output'\nexit {status}\n"
+            f"case \"$*\" in join*|*--incumbent*) cat >'{self.room}/input' ;; esac\ncat '{self.room}/output'\nexit {status}\n"
         )
         script.chmod(0o755)
         return Solver(str(script))
@@ -70,6 +71,34 @@ class RecordedTests(RoomCase):
         self.assertEqual(result.part, hammockdove.journal.read(self.part)[0].part)
         stopped = self.answers(report(1, "110", "1 1 0", "stopped budget", "bound 120\ntaken 0\nfinished 0\n"), 2).resume_part(self.part, budget=0)
         self.assertEqual((stopped.stop, stopped.value, stopped.bound, stopped.taken), (Stop.BUDGET, 110, 120, 0))
+
+    def test_incumbents(self):
+        first = self.answers(report(0)).resume_part(self.part)
+        solver = self.answers(report(1))
+        for incumbents, given in (([first], report(0)), ([report(0).encode(), report(1)], report(0) + report(1)), (iter([report(1)]), report(1))):
+            solver.resume_part(self.part, incumbents=incumbents, width=1)
+            self.assertEqual(self.words()[-1], f"resume {self.part} --incumbent --width 1 --stats")
+            self.assertEqual((self.room / "input").read_text(), given)
+        result = self.answers("proved\nvalue 120\nassignment 0 1 1\n").resume(self.journal, incumbents=[first])
+        self.assertEqual((result.value, self.words()[-1]), (120, f"resume {self.journal} --incumbent --stats"))
+
+    def test_no_incumbents(self):
+        (self.room / "input").write_text("as before")
+        self.answers(report(1)).resume_part(self.part, incumbents=[])
+        self.answers("infeasible\n", 1).resume(self.journal, incumbents=())
+        self.assertEqual(self.words(), [f"resume {self.part} --stats", f"resume {self.journal} --stats"])
+        self.assertEqual((self.room / "input").read_text(), "as before")
+
+    def test_a_timeout_asks_without_incumbents(self):
+        solver = self.answers(report(1, "110", "1 1 0", "stopped budget", "bound 120\n"), 2, wait="sleep 600")
+        solver.resume_part(self.part, incumbents=[report(0)], timeout=0.5)
+        self.assertEqual(self.words()[-1], f"resume {self.part} --budget 0")
+
+    def test_refused_incumbents(self):
+        for text, status, kind in (("reports value 0\n", 9, ReportsRefused), ("report word 1 1\n", 3, ReportRefused), ("input too-long\n", 3, InputTooLong)):
+            with self.subTest(text):
+                self.assertRaises(kind, self.answers(text, status).resume_part, self.part, incumbents=[report(0)])
+                self.assertRaises(kind, self.answers(text, status).resume, self.journal, incumbents=[report(0)])
 
     def test_timeout(self):
         solver = self.answers(report(1, "110", "1 1 0", "stopped budget", "bound 120\n"), 2, wait="sleep 600")
@@ -154,6 +183,38 @@ class ProgramTests(ProgramCase):
         result = self.solver.join_parts(self.journal, [joined, self.solver.resume_part(second, width=4)])
         self.assertEqual((result.outcome, result.within, cut.value(result.assignment)), (Outcome.PROVED, 10, result.value))
         self.assertTrue(best - 10 <= result.value <= best)
+
+    def test_incumbents(self):
+        if not takes_incumbents():
+            self.skipTest("the program has no flag --incumbent")
+        self.solver.solve(THREE, width=1, budget=1, journal=self.journal)
+        first, second = self.parts_of(self.journal, 2)
+        found = self.solver.resume_part(second, width=1)
+        told = self.solver.resume_part(first, incumbents=[found], budget=0)
+        self.assertEqual((found.value, told.value, told.assignment, told.part.index), (120, 120, (0, 1, 1), 0))
+        self.assertEqual(self.solver.resume_part(first, budget=0).value, 120)
+        parts = [self.solver.resume_part(first, incumbents=[found], width=1), found]
+        self.assertEqual((parts[0].value, parts[0].is_settled), (120, True))
+        self.assertEqual(self.solver.join_parts(self.journal, parts).value, 120)
+        whole = self.solver.resume(self.journal, incumbents=parts[::-1], budget=0)
+        self.assertEqual((whole.outcome, whole.value), (Outcome.STOPPED, 120))
+        self.assertEqual(self.solver.resume(self.journal, width=1).value, 120)
+
+    def test_refused_incumbents(self):
+        if not takes_incumbents():
+            self.skipTest("the program has no flag --incumbent")
+        self.solver.solve(THREE, width=1, budget=1, journal=self.journal)
+        first, second = self.parts_of(self.journal, 2)
+        found = self.solver.resume_part(second, width=1)
+        kept = first.read_bytes()
+        wrong = found.text.replace(b"value 120", b"value 121")
+        with self.assertRaises(ReportsRefused) as caught:
+            self.solver.resume_part(first, incumbents=[found, wrong])
+        self.assertEqual((caught.exception.cause, caught.exception.index, caught.exception.status), ("value", 1, 9))
+        stopped = self.solver.resume_part(first, budget=0)
+        self.assertRaises(ReportRefused, self.solver.resume_part, first, incumbents=[stopped])
+        self.assertRaises(ReportRefused, self.solver.resume_part, first, incumbents=[b""])
+        self.assertEqual(first.read_bytes(), kept)
 
 
 if __name__ == "__main__":

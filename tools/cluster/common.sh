@@ -34,8 +34,8 @@ until_true() {
 }
 
 # A program that takes some seconds for a part, so that there is time to disturb it; the file `seconds` has their number. Each part that begins
-# gets a line in the file `begun`: the number of its process, its index, and the bytes of its journal. The part of a journal finishes some
-# subproblems before it waits.
+# gets a line in the file `begun`: the number of its process, its index, the bytes of its journal, and the value of the solution that it is
+# offered, or `none`. The part of a journal finishes some subproblems before it waits.
 make_slow() {
     cat >"$ROOM/slow" <<END
 #!/bin/bash
@@ -45,7 +45,15 @@ case "\$words" in
     resume*/part-*) part=\${2##*/part-} part=\$((10#\${part%%-*})) bytes=\$(stat -c %s "\$2") ;;
     *) exec "$PROGRAM" "\$@" ;;
 esac
-echo "\$\$ \$part \$bytes" >>"$ROOM/begun"
+offer=none
+case "\$words" in
+    *" --incumbent"*)
+        cat >"$ROOM/part-\$part.offer"
+        exec <"$ROOM/part-\$part.offer"
+        offer=\$(sed -n 's/^value //p' "$ROOM/part-\$part.offer")
+        ;;
+esac
+echo "\$\$ \$part \$bytes \$offer" >>"$ROOM/begun"
 [ "\$bytes" = 0 ] || "$PROGRAM" resume "\$2" --budget 3 --width $WIDTH >"$ROOM/part-\$part.first"
 sleep "\$(cat "$ROOM/seconds")"
 exec "$PROGRAM" "\$@"
@@ -84,13 +92,24 @@ stop_cut() {
 is_answer() { [ "$(head -n 2 "$1/joined.txt" 2>/dev/null)" = "$wanted" ]; }
 is_accepted() { [ "$("$PROGRAM" check <"$1/joined.txt")" = accepted ]; }
 
-# How many parts have begun so far, the N-th of them (the number of its process, and its index), how often a part has begun, and whether its
-# journal had grown when it began again.
+# How many parts have begun so far, the N-th of them (the number of its process, and its index), how often a part has begun, whether its
+# journal had grown when it began again, and whether it has finished some subproblems.
 parts_begun() { [ "$(wc -l <"$ROOM/begun")" -ge "$1" ]; }
 begun_part() { sed -n "$1"'s|^\([0-9]*\) \([0-9]*\) .*|\1 \2|p' "$ROOM/begun"; }
 tries() { grep -c "^[0-9]* $1 " "$ROOM/begun"; }
 goes_on() { awk -v part="$1" '$2 == part { if (!first) first = $3; last = $3 } END { exit !(first < last) }' "$ROOM/begun"; }
 has_finished() { [ -s "$ROOM/part-$1.first" ]; }
+
+# Whether at least N parts, and the last one, were offered a solution as they began, and whether each of them tells a value that is no less.
+were_offered() { [ "$(grep -vc ' none$' "$ROOM/begun")" -ge "$1" ] && [ "$(tail -n 1 "$ROOM/begun" | cut -d ' ' -f 4)" != none ]; }
+have_taken() {
+    local part offer value
+    while read -r _ part _ offer; do
+        [ "$offer" != none ] || continue
+        value=$(sed -n 's/^value //p' "$1/$(printf 'part-%04d-of-%04d' "$part" "$CUT_PARTS").txt")
+        [ "$value" -ge "$offer" ] || return 1
+    done <"$ROOM/begun"
+}
 
 # Ends the daemons of a Slurm in the room; its files are kept where a claim failed.
 clean() {

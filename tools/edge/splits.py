@@ -6,8 +6,11 @@
 PROGRAM is the solver's binary, OTHER another program with the same words, whose answer to each instance must be the same. Each search is of a
 drawn instance of a problem that PROGRAM draws, has a width of 1 to 4 and sometimes a distance, and is stopped by a budget. Its journal is split 2 to 9
 ways. A part is resumed with drawn budgets and workers and killed at random moments; one that was stopped or killed goes on, or is split again, and
-so are its parts. Of the parts of a journal each open subproblem is in one; `split` and `join` change no file; reports that are missing, there
-twice, in another order, of another journal or distance, or with a changed value or assignment are refused. TMPDIR is where the journals lie.
+so are its parts. Some resumes are with `--incumbent`, and some of the reports that are settled by then: what such a one tells is no worse than
+each of them. Of the parts of a journal each open subproblem is in one; `split` and `join` change no file; reports that are missing, there
+twice, in another order, of another journal or distance, or with a changed value or assignment are refused. Offered reports in which a solution is none, or
+which are no reports, are refused too, and leave the journal as it is. At last the whole search goes on from all reports, and ends with the same value.
+TMPDIR is where the journals lie.
 """
 import os
 import random
@@ -38,6 +41,7 @@ MOST_TRIES = 4
 DISTANCES = [0, 0, 0, 1, 10, 60]
 KILLED = -9
 MARK = r"part (\d+)/(\d+)\njournal ([0-9a-f]{64})\n"
+VALUE = re.compile(r"^value (-?\d+)$", re.M)
 COUNTS = r"(?:taken \d+\nfinished \d+\n)?"
 SETTLED = re.compile(r"settled(?: within (\d+))?\n" + MARK + r"value (?:none|(-?\d+)\nassignment((?: \d+)*))\n" + COUNTS)
 STOPPED = re.compile(r"stopped budget\n" + MARK + r"value (?:none|-?\d+\nassignment(?: \d+)*)\nbound -?\d+\n" + COUNTS)
@@ -60,9 +64,11 @@ def main():
     with tempfile.TemporaryDirectory() as folder:
         if run(program, "split none --part 0/1", folder)[1] == b"words usage\n":
             sys.exit("the program has no word split")
+        offers = run(program, "resume none --incumbent", folder)[1] != b"words usage\n"
         models = [model for model in SIZES if run(program, "digest " + model, folder)[1] != b"words model\n"]
         for number in range(times):
             search = Search(program, other, folder, draw, draw.choice(models), seen)
+            search.offers = offers
             try:
                 search.try_all()
             except (Wrong, HammockdoveError, OSError) as wrong:
@@ -87,6 +93,8 @@ class Search:
         # The journals of which the program may have fewer subproblems open than they list: several workers have written them, so that two may have
         # one state, of which one is kept; or there is nothing to search at all.
         self.lists_more = set()
+        # Whether resumes are offered solutions, the reports that are settled so far, and of each journal the greatest value that was told.
+        self.offers, self.known, self.told = True, [], {}
 
     def try_all(self):
         """Solves the instance, stops a search of it, splits that, and joins its parts."""
@@ -117,6 +125,7 @@ class Search:
         claim(value is None or self.best - self.within <= value <= self.best, "the joined value, where the best is", self.best, answer)
         self.seen["infeasible"] += value is None
         self.refusals("j", reports)
+        self.goes_on("j", reports)
 
     def solve(self, given, options):
         """The answer to the instance, with the time and the subproblems that it takes."""
@@ -170,9 +179,11 @@ class Search:
         claim(content(self.path(name)) == kept, "split changed the journal")
         self.are_parts(parts, journal.digest, frontier, name in self.lists_more)
         self.seen["parts"] += of
-        reports = [self.settled(part, depth) for part in parts]
-        for index, report in enumerate(reports):
-            self.is_report(report, index, of, journal.digest)
+        reports = []
+        for index, part in enumerate(parts):
+            reports.append(self.settled(part, depth))
+            self.is_report(reports[index], index, of, journal.digest)
+            self.known.append(reports[index])
         return reports
 
     def are_parts(self, parts, digest, frontier, may_be_less):
@@ -202,25 +213,43 @@ class Search:
                 status, output = self.joined(part, reports)
                 claim(status == 0, "the parts of a part have joined to", status, output)
                 return output
-        status, output = run(self.program, "resume %s --stats%s" % (part, self.options()), self.folder)[:2]
+        flag, offer = self.offered()
+        status, output = run(self.program, "resume %s --stats%s%s" % (part, flag, self.options()), self.folder, offer)[:2]
         claim(status == 0, "a part ended", status, output)
+        self.is_taken(part, offer, output)
         return output
+
+    def offered(self):
+        """The flag of a resume and its input: some of the reports that are settled so far, in any order; often none."""
+        if not self.offers or not self.known or self.draw.random() < 0.4:
+            return "", b""
+        self.seen["resumes with an incumbent"] += 1
+        return " --incumbent", b"".join(self.draw.choices(self.known, k=self.draw.randint(1, 4)))
+
+    def is_taken(self, name, offer, output):
+        """Whether a search tells a value that is no less than each that it was offered, and than what it told before: the journal keeps those."""
+        told, least = VALUE.search(output.decode()), [int(it) for it in VALUE.findall(offer.decode())] + self.told.get(name, [])
+        claim(not least or told and int(told[1]) >= max(least), "the value of a better solution that was offered or told before", least, output)
+        self.told[name] = [int(told[1])] if told else []
 
     def resumed(self, part):
         """Status and output of a resume with a budget, or one that is killed. No byte of a record is lost by it."""
         before, head = self.whole_records(part), read(self.path(part))[0]
         options = self.options()
         self.note(part, options)
-        words = "resume %s%s --budget %d" % (part, options, self.draw.randint(0, self.finished // 2 + 1))
+        flag, offer = self.offered()
+        words = "resume %s%s%s --budget %d" % (part, flag, options, self.draw.randint(0, self.finished // 2 + 1))
         if self.draw.random() < 0.4:
-            prepare(self.path("nothing"), b"")
-            child = begin(self.program, words, self.folder, self.path("nothing"))
+            prepare(self.path("offer"), offer)
+            child = begin(self.program, words, self.folder, self.path("offer"))
             time.sleep(self.draw.uniform(0, self.seconds))
             child.kill()
             status, output = end(child)[:2]
         else:
-            status, output = run(self.program, words, self.folder)[:2]
+            status, output = run(self.program, words, self.folder, offer)[:2]
         self.seen["kills"] += status == KILLED
+        if status != KILLED:
+            self.is_taken(part, offer, output)
         claim(self.whole_records(part).startswith(before), "records were lost")
         claim(read(self.path(part))[0] == head, "another head")
         if status == 2:
@@ -261,15 +290,33 @@ class Search:
             claim(ended[0] == status and re.fullmatch(answer, ended[1].decode()), "reports that are %s: wanted" % kind, answer, ended)
             self.seen["refusals"] += 1
 
+    def goes_on(self, name, reports):
+        """Goes on with the whole search from the reports in any order, whose part, journal and distance do not count, to its end."""
+        if not self.offers:
+            return
+        kept = content(self.path(name))
+        for kind, changed, answer, status in wrong_reports(self.draw, self.instance, reports):
+            ended = run(self.program, "resume %s --incumbent" % name, self.folder, b"".join(changed))[:2]
+            claim(ended[0] == status and re.fullmatch(answer, ended[1].decode()), "offered reports that are %s: wanted" % kind, answer, ended)
+            claim(content(self.path(name)) == kept, "refused reports changed the journal")
+            self.seen["refused offers"] += 1
+        offer = re.sub(rb"journal .", b"journal 0", b"".join(self.draw.choices(reports, k=len(reports))))
+        ended = run(self.program, "resume %s --incumbent%s" % (name, self.options()), self.folder, offer)[:2]
+        self.is_taken(name, offer, ended[1])
+        value = self.value_of(ended, self.within)
+        claim((value is None) == (self.best is None), "the whole search went on to", ended)
+        claim(value is None or self.best - self.within <= value <= self.best, "its value, where the best is", self.best, ended)
+
+
+def instead(reports, place, text):
+    """The reports with this text in the place of one."""
+    return [*reports[:place], text.encode(), *reports[place + 1 :]]
+
 
 def changes(draw, instance, reports):
-    """Reports that are changed in some way, with the answer and the status that they must have."""
+    """Reports that are changed in some way, with the answer and the status that a join of them must have."""
     place = draw.randrange(len(reports))
-    one, before = reports[place].decode(), b"".join(reports[:place]).count(b"\n")
-
-    def instead(text):
-        return [*reports[:place], text.encode(), *reports[place + 1 :]]
-
+    one = reports[place].decode()
     others = [it for it in range(len(reports)) if it != place]
     other = draw.choice(others)
     swapped = list(reports)
@@ -277,23 +324,31 @@ def changes(draw, instance, reports):
     yield "missing", reports[:place] + reports[place + 1 :], r"reports order \d+\n", 3
     yield "there twice", [*reports[: place + 1], *reports[place:]], r"reports order \d+\n", 3
     yield "in another order", swapped, "reports order %d\n" % min(place, other), 3
-    yield "none", [], r"reports? .*\n", 3
     digest = re.search("journal ([0-9a-f]{64})", one)[1]
     changed = ("1" if digest[0] != "1" else "2") + digest[1:]
-    yield "of another journal", instead(one.replace(digest, changed)), "reports journal %d\n" % place, 3
-    first, rest = one.split("\n", 1)
-    yield "of another distance", instead("settled within 7\n" + rest), "reports distance %d\n" % place, 3
-    yield "stopped", instead(one.replace(first, "stopped budget", 1)), r"report \S+ %d \d+\n" % (before + 1), 3
-    yield "cut short", instead(first + "\n"), r"report \S+ \d+ \d+\n", 3
+    yield "of another journal", instead(reports, place, one.replace(digest, changed)), "reports journal %d\n" % place, 3
+    yield "of another distance", instead(reports, place, "settled within 7\n" + one.split("\n", 1)[1]), "reports distance %d\n" % place, 3
+    yield from wrong_reports(draw, instance, reports)
+
+
+def wrong_reports(draw, instance, reports):
+    """The same of texts that are no reports, and of reports whose solution is none: a search that goes on refuses them too."""
+    place = draw.randrange(len(reports))
+    one, before = reports[place].decode(), b"".join(reports[:place]).count(b"\n")
+    first = one.split("\n", 1)[0]
+    yield "none", [], r"report \S+ 1 1\n", 3
+    yield "stopped", instead(reports, place, one.replace(first, "stopped budget", 1)), r"report \S+ %d \d+\n" % (before + 1), 3
+    yield "cut short", instead(reports, place, first + "\n"), r"report \S+ \d+ \d+\n", 3
     value = re.search(r"value (-?\d+)\nassignment(.*)\n", one)
     if value:
         refused = "reports value %d\n" % place
-        yield "of another value", instead(one.replace("value " + value[1], "value %d" % (int(value[1]) + 1))), refused, 9
+        yield "of another value", instead(reports, place, one.replace("value " + value[1], "value %d" % (int(value[1]) + 1))), refused, 9
         decisions = [int(it) for it in value[2].split()]
         at = draw.randrange(len(decisions))
         decisions[at] += 1
         if instance.value(decisions) != int(value[1]):
-            yield "of another assignment", instead(one.replace("assignment" + value[2], " ".join(map(str, ["assignment", *decisions])))), refused, 9
+            other = one.replace("assignment" + value[2], " ".join(map(str, ["assignment", *decisions])))
+            yield "of another assignment", instead(reports, place, other), refused, 9
 
 
 if __name__ == "__main__":
