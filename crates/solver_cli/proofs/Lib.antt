@@ -5,7 +5,7 @@ pub mod Searched
 pub mod Told
 pub mod Over
 pub mod Rising
-pub mod Offering
+pub mod AfterOffers
 pub mod Beginning
 pub mod GoingOn
 pub mod Offered

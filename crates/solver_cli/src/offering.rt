@@ -1,13 +1,11 @@
 //! Solutions of settled parts, which are offered to a search before it goes on.
 
-ghost use Rattle.std.specs.Prelude.{◌≡◌, ◌≢◌, ◌⊎◌, ℕ, ℤ, List, Option, Some, option_map, map, is_some, vec_len, IfErr, IfOk, IsErrOf, IsSome, OnOk};
-ghost use Rattle.std.specs.List.{All};
+ghost use Rattle.std.specs.Prelude.{◌≡◌, ◌≢◌, ◌⊎◌, ℕ, ℤ, List, Option, Some, map, is_some, IfOk, IsErrOf, IsSome, OnOk};
 ghost use Rattle.board_laws.specs.Board.{incumbent_value};
 ghost use Rattle.board_laws.specs.GoodBoard.{IsGood};
 ghost use Rattle.board_laws.specs.declared.cause.Cause.TheVariants.{Journal};
 ghost use Rattle.disk.specs.Counts.{Rose};
 ghost use Rattle.dp_model.specs.Numbers.{OptionAtMost};
-ghost use Rattle.journal_bytes.specs.Views.{incumbent_view};
 ghost use Rattle.part_reports.specs.Reports.{AreTested, IsTested, report_view, value_told};
 ghost use Rattle.problem_theory.specs.Theory.{Agrees};
 ghost use Rattle.answers.specs.Offers.{AreWorthAtMost, told_value};
@@ -20,7 +18,6 @@ use crate::runner::Runner;
 use crate::searching::search_from;
 use disk::Disk;
 use dp_model::{DpModel, OutOfMemory};
-use journal_bytes::Incumbent;
 use kept_board::{Kept, KeptError};
 use part_reports::PartReport;
 use search_workers::{Desk, Gate};
@@ -34,16 +31,16 @@ use std::thread::Threads;
 fn offer<M: DpModel, D: Disk>(
     alloc: Global,
     kept: &mut Kept<M, D>,
-    best: &Option<Incumbent>,
+    report: &PartReport,
 ) -> Result<(), KeptError>
     requires going { IsSome kept.old.tail → kept.old.board.board.cause ≢ Some Journal }
-    requires tested { IsTested (M.meaning kept.old.board.numbers) (option_map incumbent_view best.now) }
+    requires tested { IsTested (M.meaning kept.old.board.numbers) (report_view report.now).best }
     ensures after { IsAfterOffers (M.meaning kept.old.board.numbers) kept.old kept.new }
-    ensures taken { OnOk result (OptionAtMost (option_map (λ b. b.value) (option_map incumbent_view best.now)) (incumbent_value kept.new.board.board)) }
+    ensures taken { OnOk result (OptionAtMost (value_told (report_view report.now)) (incumbent_value kept.new.board.board)) }
     ensures going { OnOk result (kept.new.board.board.cause ≡ kept.old.board.board.cause) }
     ensures journal { IsErrOf result KeptError.Journal → kept.new.board.board.cause ≡ Some Journal }
 {
-    let Some(best) = best else {
+    let Some(best) = &report.best else {
         return Ok(());
     };
     match kept.improve(alloc, best.decisions.as_slice()) {
@@ -66,7 +63,7 @@ fn offer_all<M: DpModel, D: Disk>(
 {
     let mut rest = reports;
     while let [report, after @ ..] = rest {
-        match offer(alloc, kept, &report.best) {
+        match offer(alloc, kept, report) {
             Ok(()) => rest = after,
             Err(KeptError::Journal) => return Ok(()),
             Err(KeptError::OutOfMemory) => return Err(OutOfMemory),

@@ -24,8 +24,9 @@ pub struct Ended<D> {
 ///
 /// `words` leave out the program's name. A search takes these steps in order: words, input, instance, width, attaching, journal, search,
 /// report, cover. A search that goes on from a journal takes these: words, attaching, reopening, instance, width, replay, search, report.
-/// The first step that fails decides the answer. The disk is touched only if a journal is asked for. Each worker passes the gate after
-/// each of its steps. `run` may wait: for its workers, and they for one another.
+/// With `--incumbent` the input is read after the words, and the solutions of its reports are tested and offered after the replay. The first
+/// step that fails decides the answer. The disk is touched only if a journal is asked for. Each worker passes the gate after each of its
+/// steps. `run` may wait: for its workers, and they for one another.
 ///
 /// | Status | Meaning |
 /// |---|---|

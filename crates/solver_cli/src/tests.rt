@@ -2,6 +2,7 @@ mod books;
 mod covers;
 mod journals;
 mod meeting;
+mod offers;
 mod partial;
 mod tables;
 mod wide;

@@ -27,7 +27,7 @@ const ASKED: &[(&str, &str)] = &[
     ),
     (
         "resume|j|--cutset=frontier",
-        "Ok(Resume { path: \"j\", settings: JobSettings { width: None, workers: 1, budget: 18446744073709551615, cutset: Frontier, stats: false, within: 0, cover_words: None, parts: 1 } })",
+        "Ok(Resume { path: \"j\", settings: JobSettings { width: None, workers: 1, budget: 18446744073709551615, cutset: Frontier, stats: false, within: 0, cover_words: None, parts: 1 }, incumbent: false })",
     ),
     (
         "solve|max2sat|--cover",
@@ -47,11 +47,15 @@ const ASKED: &[(&str, &str)] = &[
     ),
     (
         "resume|j|--parts=2",
-        "Ok(Resume { path: \"j\", settings: JobSettings { width: None, workers: 1, budget: 18446744073709551615, cutset: LastExactLayer, stats: false, within: 0, cover_words: None, parts: 2 } })",
+        "Ok(Resume { path: \"j\", settings: JobSettings { width: None, workers: 1, budget: 18446744073709551615, cutset: LastExactLayer, stats: false, within: 0, cover_words: None, parts: 2 }, incumbent: false })",
     ),
     (
         "resume|--|-j",
-        "Ok(Resume { path: \"-j\", settings: DEFAULTS })",
+        "Ok(Resume { path: \"-j\", settings: DEFAULTS, incumbent: false })",
+    ),
+    (
+        "resume|--incumbent|j",
+        "Ok(Resume { path: \"j\", settings: DEFAULTS, incumbent: true })",
     ),
     (
         "solve|knapsack|--part|0003/1024",
