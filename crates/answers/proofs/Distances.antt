@@ -1,5 +1,5 @@
 -- The first report with another distance.
-use Rattle.std.proofs.Common.{◌≡◌, ◌≢◌, inl, inr, ℕ, ◌≤◌, ◌<◌, ℤ, List, [], ◌∷◌, length, map, refl, sym, ◌∙◌, ap, arith}
+use Rattle.std.proofs.Common.{◌≡◌, ◌≢◌, inl, ℕ, ◌≤◌, ◌<◌, ℤ, List, [], ◌∷◌, length, map, refl, ◌∙◌, ap, arith}
 use Rattle.std.specs.Prelude.{get_or}
 use Rattle.part_text.specs.Reports.{settled_view}
 use Rattle.part_text.specs.declared.settled_report.SettledReport.{SettledReport}

@@ -1,5 +1,5 @@
 -- The distance of a journal's head.
-use Rattle.std.proofs.Common.{◌≡◌, ℕ, ℤ, pos, ◌≤ℤ◌, Bool, true, false, ◌&&◌, List, [], ◌∷◌, Option, Some, None, Result, Ok, Err, IfOk, IfSome, IsTrue, refl, ap, ◌∙◌, subst, arith}
+use Rattle.std.proofs.Common.{◌≡◌, ℕ, ℤ, pos, Bool, true, false, ◌&&◌, List, [], ◌∷◌, Option, Some, None, Result, Ok, Err, IfOk, IfSome, IsTrue, refl, subst, arith}
 use Rattle.std.specs.Prelude.{◌+◌, ◌^◌, ◌==◌, if◌then◌else◌, int_le, nat_le, length}
 use Rattle.std.specs.Int.{w32, w64, cast_signed}
 use Rattle.std.proofs.lemmas.Int.{ints}
@@ -11,7 +11,7 @@ use Rattle.journal_bytes.specs.declared.refusal.Refusal.{Refusal}
 use Rattle.journal_bytes.specs.declared.refusal.Refusal.TheVariants.{NotBegun, Malformed, Damaged, Version}
 use Rattle.journal_bytes.specs.declared.head.Head.{Head}
 use Rattle.journal_bytes.specs.declared.tail.Tail.{Tail}
-use Rattle.journal_bytes.specs.Bodies.{RecordView, RecordsView, number_at}
+use Rattle.journal_bytes.specs.Bodies.{RecordsView, number_at}
 use Rattle.journal_bytes.specs.Frames.{Frame, Reading, reading_of}
 use Rattle.problem_names.specs.declared.ModelName.{ModelName}
 use Rattle.journal_file.specs.Refusing.{Opens}

@@ -1,5 +1,5 @@
 -- The first fault of texts, and want of memory in reading them.
-use Rattle.std.proofs.Common.{◌≡◌, ℕ, ℤ, List, [], ◌∷◌, Option, Some, None}
+use Rattle.std.proofs.Common.{◌≡◌, ℕ, ℤ, List, [], ◌∷◌, Some, None}
 use Rattle.std.specs.Prelude.{Result, Ok, Err, MatchResult}
 use Rattle.cover_text.specs.Grammar.{Fails}
 use Rattle.cover_text.specs.Several.{texts_of}
@@ -11,7 +11,6 @@ use Rattle.problem_theory.specs.Theory.{Theory}
 use Rattle.problems.specs.Theories.{theory_of}
 use Rattle.solver_report.specs.declared.answer.Answer.{Answer}
 use Rattle.solver_report.specs.declared.answer.Answer.TheVariants as answers
-use Rattle.tokens.specs.declared.instance_error.InstanceError.{InstanceError}
 use Rattle.answers.specs.Checks.{RefusesCover, RefusesInstance}
 use Rattle.answers.specs.Joins.{IsJoined, JoinsIn, JoinsTexts}
 

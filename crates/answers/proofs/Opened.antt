@@ -1,5 +1,5 @@
 -- An answer for a file that is only read.
-use Rattle.std.proofs.Common.{◌≡◌, ◌⊎◌, inl, inr, ℕ, ◌+◌, List, [], ◌∷◌, Result, Ok, Err, refl, sym, subst, ap}
+use Rattle.std.proofs.Common.{◌≡◌, ◌⊎◌, inl, inr, ℕ, List, [], ◌∷◌, Ok, Err, refl, sym, subst, ap}
 use Rattle.std.specs.Prelude.{IsSome, MatchResult}
 use Rattle.disk.specs.declared.disk.Disk.{Ghosts}
 use Rattle.disk.specs.Counts.{Rose}
@@ -7,7 +7,7 @@ use Rattle.dp_model.specs.Dp.{Dp}
 use Rattle.journal_bytes.specs.Base.{base_offset, following_record, from_base}
 use Rattle.journal_bytes.specs.Bodies.{RecordView, RecordsView}
 use Rattle.journal_bytes.specs.Frames.{frames_of}
-use Rattle.journal_bytes.specs.Journal.{JournalView, after_head, journal_of, journal_view}
+use Rattle.journal_bytes.specs.Journal.{after_head, journal_of, journal_view}
 use Rattle.journal_bytes.specs.declared.head.Head.{Head}
 use Rattle.journal_bytes.specs.declared.tail.Tail.{Tail}
 use Rattle.journal_bytes.specs.declared.refusal.Refusal.{Refusal}
@@ -19,8 +19,8 @@ use Rattle.journal_replay.specs.Accepting.{AreRefused, IsFirstWrong}
 use Rattle.journal_replay.specs.Replay.{Replayed, after_record, replay_start}
 use Rattle.solver_report.specs.declared.answer.Answer.{Answer}
 use Rattle.solver_report.specs.declared.answer.Answer.TheVariants as answers
-use Rattle.answers.specs.Journals.{HasOpened}
-use Rattle.answers.specs.Opened.{ForJournal, IsForDisk, IsForFile}
+use Rattle.answers.specs.Journals.{Attaches, HasOpened, IsUnwritten}
+use Rattle.answers.specs.Opened.{ForJournal, IsForDisk, IsForFile, ReadsNamed}
 
 -- ---- no record is refused for the disk
 
@@ -53,7 +53,7 @@ module _ {D : Type 0} (on : Ghosts D) (For : ForJournal) (before now : D) where
     for-disk never answers.OutOfMemory h = tt
     for-disk never answer h = for-file answer h
 
-    pub for-opened : (For (journal_view r) r.1.first (answers.Journal errors.Disk) → ⊥) → (answer : Answer) → (answer ≡ answers.OutOfMemory) ⊎ For (journal_view r) r.1.first answer → IsForDisk on For before now answer
+    for-opened : (For (journal_view r) r.1.first (answers.Journal errors.Disk) → ⊥) → (answer : Answer) → (answer ≡ answers.OutOfMemory) ⊎ For (journal_view r) r.1.first answer → IsForDisk on For before now answer
     for-opened never answer (inl memory) = subst (IsForDisk on For before now) (sym memory) tt
     for-opened never answer (inr h) = for-disk never answer h
 
@@ -68,7 +68,7 @@ module _ {D : Type 0} (on : Ghosts D) (For : ForJournal) (before now : D) where
         (ap (λ (x : JournalError). answers.Journal x) (sym same));
   }
 
-  pub for-unopened : (e : JournalError) → HasOpened on now (Err e) → (e ≡ errors.Disk → Rose (on.faults before) (on.faults now)) → IsForDisk on For before now (answers.Journal e)
+  for-unopened : (e : JournalError) → HasOpened on now (Err e) → (e ≡ errors.Disk → Rose (on.faults before) (on.faults now)) → IsForDisk on For before now (answers.Journal e)
   for-unopened errors.Disk opened rose = rose refl
   for-unopened errors.NotBegun opened rose = was-refused errors.NotBegun bytes.NotBegun opened tt opened.opens refl
   for-unopened errors.Exists opened rose = absurd opened.opens
@@ -77,3 +77,13 @@ module _ {D : Type 0} (on : Ghosts D) (For : ForJournal) (before now : D) where
   for-unopened (errors.Version found) opened rose = was-refused (errors.Version found) (bytes.Version found) opened tt opened.opens refl
   for-unopened (errors.NoSolution offset) opened rose = absurd opened.opens
   for-unopened errors.OutOfMemory opened rose = tt
+
+  -- ---- the named file, from which nothing is written
+
+  module _ (path : List ℕ) (attaches : Attaches on path before now) (unwritten : IsUnwritten on now) where
+    pub reads-opened : (r : Head × RecordsView × Tail) → HasOpened on now (Ok r) → IsSome (on.start now) → (For (journal_view r) r.1.first (answers.Journal errors.Disk) → ⊥)
+        → (answer : Answer) → (answer ≡ answers.OutOfMemory) ⊎ For (journal_view r) r.1.first answer → ReadsNamed on For path before now answer
+    reads-opened r opened began never answer h = record { attaches = attaches; unwritten = unwritten; right = for-opened r opened began never answer h }
+
+    pub reads-unopened : (e : JournalError) → HasOpened on now (Err e) → (e ≡ errors.Disk → Rose (on.faults before) (on.faults now)) → ReadsNamed on For path before now (answers.Journal e)
+    reads-unopened e opened rose = record { attaches = attaches; unwritten = unwritten; right = for-unopened e opened rose }

@@ -1,16 +1,14 @@
 -- What is told of the search of a part is true.
-use Rattle.std.proofs.Common.{◌≡◌, ◌≤◌, ℕ, ℤ, List, ◌∷◌, Option, Some, None, refl, sym, ◌∙◌, subst}
-use Rattle.std.specs.Prelude.{IsTrue}
+use Rattle.std.proofs.Common.{◌≡◌, ◌≤◌, ℕ, ℤ, List, Option, Some, None, refl, sym, subst}
 use Rattle.dp_model.specs.Distances.{IsDistance}
 use Rattle.dp_model.specs.Dp.{Dp}
 use Rattle.dp_model.specs.Laws.{IsLawful}
 use Rattle.dp_model.specs.Numbers.{AtMost}
-use Rattle.dp_model.specs.Prefixes.{value_of}
 use Rattle.dp_model.specs.Solution.{IsSolutionWith, Solution, SolutionGives}
 use Rattle.problem_theory.specs.Theory.{Agrees}
-use Rattle.board_laws.specs.Board.{AreSettings, BoardState, is_explored, reach, reach_of, value_held}
+use Rattle.board_laws.specs.Board.{AreSettings, BoardState, reach, reach_of, value_held}
 use Rattle.board_laws.specs.Bound.{board_bound}
-use Rattle.board_laws.specs.GoodBoard.{IsBoard, IsGood, IsGoodFrom}
+use Rattle.board_laws.specs.GoodBoard.{IsBoard, IsGoodFrom}
 use Rattle.board_laws.specs.declared.settings.Settings.{Settings}
 use Rattle.board_laws.proofs.Reading.{explored-settles}
 use Rattle.board_laws.proofs.Restoring.{restored-boards-keep}
@@ -29,7 +27,7 @@ use Rattle.solver_report.specs.declared.answer.Outcome.{Outcome}
 use Rattle.solver_report.specs.declared.answer.Outcome.TheVariants.{Infeasible, Proved, Stopped}
 use Rattle.solver_words.specs.declared.job.JobSettings.{JobSettings}
 use Rattle.solver_words.specs.Possible.{MaySearch}
-use Rattle.answers.specs.Outcomes.{HasSearched, IsExploredWith, IsStopped, IsTold}
+use Rattle.answers.specs.Outcomes.{HasSearched, IsExploredWith, IsTold}
 use Rattle.answers.specs.Over.{IsOver}
 use Rattle.answers.specs.PartSearches.{AreSettledWithin, HasSearchedPart, IsPartTold, IsTrueFrom, NoneExceedsFrom, part_outcome}
 use Rattle.answers.proofs.Conclusions.{over_distance}

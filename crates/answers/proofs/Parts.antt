@@ -1,8 +1,8 @@
 -- The own words of a part agree with its program.
-use Rattle.std.proofs.Common.{◌≡◌, ◌∙◌, ℕ, ◌%◌, ◌≤◌, ℤ, pos, ◌+ℤ◌, Bool, true, false, nat_eq, cond, List, [], ◌∷◌, Option, Some, None, refl, sym, ap, true≢false, arith}
+use Rattle.std.proofs.Common.{◌≡◌, ◌∙◌, ℕ, ◌%◌, ℤ, ◌+ℤ◌, Bool, true, false, nat_eq, cond, List, [], ◌∷◌, Option, Some, None, refl, sym, ap, true≢false, arith}
 use Rattle.std.proofs.lemmas.Bool.{and_parts}
 use Rattle.dp_model.specs.Dp.{Dp}
-use Rattle.dp_model.specs.Prefixes.{IsSolution, value_of}
+use Rattle.dp_model.specs.Prefixes.{IsSolution}
 use Rattle.dp_model.specs.Solution.{IsSolutionWith, SolutionGives}
 use Rattle.parts.specs.Part.{part_program}
 use Rattle.parts.specs.Laws.{gain_same, path_in_part, path_in_whole}

@@ -1,5 +1,5 @@
 -- What the reports of all parts of a stopped search are joined to.
-use Rattle.std.proofs.Common.{◌≡◌, ◌⊎◌, inl, inr, ℕ, ◌+◌, ◌<◌, ℤ, List, [], ◌∷◌, length, map, Option, Some, None, Result, Ok, Err, true, is_some, option_map, false, refl, sym, ◌∙◌, ap, subst, arith}
+use Rattle.std.proofs.Common.{◌≡◌, ◌⊎◌, inl, inr, ℕ, ◌<◌, ℤ, List, [], ◌∷◌, length, Option, Some, None, Result, Ok, Err, true, is_some, false, refl, sym, ◌∙◌, ap, subst, arith}
 use Rattle.std.specs.Prelude.{IfErr, IfOk, MatchResult}
 use Rattle.disk.specs.declared.disk.Disk.{Ghosts}
 use Rattle.bound_cover.specs.Exploring.{HoldsAll}
@@ -29,12 +29,13 @@ use Rattle.solver_report.specs.declared.answer.Answer.{Answer}
 use Rattle.solver_report.specs.declared.answer.Answer.TheVariants as answers
 use Rattle.tokens.specs.declared.instance_error.InstanceError.{InstanceError}
 use Rattle.answers.specs.Covers.{cover_limit}
-use Rattle.answers.specs.Ended.{IsInputAnswer, Readings, WasRead}
-use Rattle.answers.specs.Opened.{ReadsNamed}
+use Rattle.answers.specs.Ended.{IsInputAnswer, LeavesAfterReports, Readings, WasRead}
+use Rattle.answers.specs.Journals.{Attaches, IsUnwritten}
+use Rattle.answers.specs.Opened.{IsForDisk, IsForFile, ReadsNamed}
 use Rattle.answers.specs.Outcomes.{IsTrueOf}
 use Rattle.answers.specs.PartSearches.{AreSettledWithin}
 use Rattle.answers.specs.Offers.{RefusesReport, parts_told}
-use Rattle.answers.specs.ReportsJoined.{AreAllHeld, DoesNotJoin, HasBest, HasJoined, IsTrueJoined, JoinsFrom, JoinsIn, JoinsJournal, JoinsReports, RefusesReports, TellsJoined, joined_answer, starts_for, whole_outcome}
+use Rattle.answers.specs.ReportsJoined.{AreAllHeld, DoesNotJoin, HasBest, HasJoined, IsTrueJoined, JoinsFrom, JoinsIn, JoinsJournal, JoinsReports, LeavesRead, RefusesReports, TellsJoined, joined_answer, starts_for, whole_outcome}
 use Rattle.answers.specs.Splits.{idle_settings, stopped_board}
 use Rattle.answers.proofs.Conclusions.{found_holds, reach_infeasible, reach_proved}
 use Rattle.answers.proofs.Texts.{whole-or-memory}
@@ -162,48 +163,46 @@ joins-not-disk rs j first h = never ((theory_of j.head.model).spelled j.head.tex
 -- ---- step by step
 
 module _ (dp dpa dpb : Dp) (sa : dpa ≡ dp) (sb : dpb ≡ dp) (within w : ℤ) (sw : w ≡ within) (digest : List ℕ) (records : List RecordView) (rs : List SettledView) (accepted : AreAccepted dpa records) where
-  -- what was found on the board that accepted records make
-  pub joined-found : (b : BoardState) → b ≡ stopped_board dpa within records → (r : Result (Option Solution) Answer) → IfOk r (HasBest dpb w digest b rs) → IfOk r (HasJoined dp within digest records rs)
-  joined-found b is (Ok best) h =
+  accepted-there : AreAccepted dp records
+  accepted-there = subst (λ (d : Dp). AreAccepted d records) sa accepted
+
+  refused-there : (first : ℕ) (answer : Answer) → RefusesReports dp within digest rs answer → DoesNotJoin dp within digest first records rs answer
+  refused-there first (answers.ReportsRefused refusal) h = (accepted-there, h)
+  refused-there first answers.OutOfMemory h = tt
+  refused-there first answer h = absurd h
+
+  -- what was found on the board that accepted records make, or why nothing was
+  pub found-joined : (b : BoardState) → b ≡ stopped_board dpa within records → (first : ℕ) (r : Result (Option Solution) Answer) → IfOk r (HasBest dpb w digest b rs) → IfErr r (RefusesReports dpb w digest rs)
+      → MatchResult r (HasJoined dp within digest records rs) (DoesNotJoin dp within digest first records rs)
+  found-joined b is first (Ok best) h k =
       let on : HasBest dp within digest b rs best = subst (λ (d : Dp). HasBest d within digest b rs best) sb (subst (λ (z : ℤ). HasBest dpb z digest b rs best) sw h) in
       let there : b ≡ stopped_board dp within records = is ∙ ap (λ (d : Dp). stopped_board d within records) sa in
-      record { accepted = subst (λ (d : Dp). AreAccepted d records) sa accepted; found = subst (λ (b : BoardState). HasBest dp within digest b rs best) there on }
-  joined-found b is (Err answer) h = tt
-
-  -- or why nothing was
-  pub found-refused : (first : ℕ) (r : Result (Option Solution) Answer) → IfErr r (RefusesReports dpb w digest rs) → IfErr r (DoesNotJoin dp within digest first records rs)
-  found-refused first (Ok best) h = tt
-  found-refused first (Err answer) h = by-answer answer (subst (λ (d : Dp). RefusesReports d within digest rs answer) sb (subst (λ (z : ℤ). RefusesReports dpb z digest rs answer) sw h))
-    where
-      by-answer : (answer : Answer) → RefusesReports dp within digest rs answer → DoesNotJoin dp within digest first records rs answer
-      by-answer (answers.ReportsRefused refusal) h = (subst (λ (d : Dp). AreAccepted d records) sa accepted, h)
-      by-answer answers.OutOfMemory h = tt
-      by-answer answer h = absurd h
+      record { accepted = accepted-there; found = subst (λ (b : BoardState). HasBest dp within digest b rs best) there on }
+  found-joined b is first (Err answer) h k = refused-there first answer (subst (λ (d : Dp). RefusesReports d within digest rs answer) sb (subst (λ (z : ℤ). RefusesReports dpb z digest rs answer) sw k))
 
 -- ---- the input
 
 module _ {D : Type 0} (on : Ghosts D) (path : List ℕ) (before now : D) where
-  no-fault : (bytes : List ℕ) → JoinsReports on path before now bytes answers.ReadFault → ⊥
-  no-fault bytes h = never (reports_of bytes) h
+  -- an answer that neither the text of reports, nor a file, nor a journal is given
+  never-told : (answer : Answer) → ((e : InstanceError) → RefusesReport e answer → ⊥) → ((e : JournalError) → answer ≡ answers.Journal e → ⊥)
+      → ((dp : Dp) (own : List ℕ → Option ℤ) (starts : List (List ℕ)) (rs : List SettledView) (j : JournalView) (first : ℕ) → JoinsFrom dp own starts rs j first answer → ⊥)
+      → ((rs : List SettledView) → IsForDisk on (JoinsJournal rs) before now answer → IsForFile on (JoinsJournal rs) now answer)
+      → (bytes : List ℕ) → JoinsReports on path before now bytes answer → ⊥
+  never-told answer no-text no-journal no-join in-file bytes h = text (reports_of bytes) h
     where
-      file : (rs : List SettledView) (r : Result JournalView Refusal) (first : ℕ) → MatchResult r (λ j. JoinsJournal rs j first answers.ReadFault) (λ refusal. answers.ReadFault ≡ answers.Journal (error_of refusal)) → ⊥
-      file rs (Ok j) first h = not-joined rs j first answers.ReadFault (λ e same. cc) (λ dp own starts h. h) h
-      file rs (Err refusal) first same = cc
+      file : (rs : List SettledView) (r : Result JournalView Refusal) (first : ℕ) → MatchResult r (λ j. JoinsJournal rs j first answer) (λ refusal. answer ≡ answers.Journal (error_of refusal)) → ⊥
+      file rs (Ok j) first h = not-joined rs j first answer no-journal (λ dp own starts h. no-join dp own starts rs j first h) h
+      file rs (Err refusal) first same = no-journal (error_of refusal) same
 
-      never : (r : Result (List SettledView) InstanceError) → MatchResult r (λ rs. ReadsNamed on (JoinsJournal rs) path before now answers.ReadFault) (λ e. RefusesReport e answers.ReadFault × (now ≡ before)) → ⊥
-      never (Ok rs) h = file rs (journal_of h.right.file) _ h.right.right
-      never (Err e) h = h.0
+      text : (r : Result (List SettledView) InstanceError) → MatchResult r (λ rs. ReadsNamed on (JoinsJournal rs) path before now answer) (λ e. RefusesReport e answer × (now ≡ before)) → ⊥
+      text (Ok rs) h = let found : IsForFile on (JoinsJournal rs) now answer = in-file rs h.right in file rs (journal_of found.file) _ found.right
+      text (Err e) h = no-text e h.0
+
+  no-fault : (bytes : List ℕ) → JoinsReports on path before now bytes answers.ReadFault → ⊥
+  no-fault = never-told answers.ReadFault (λ e h. h) (λ e same. cc) (λ dp own starts rs j first h. h) (λ rs h. h)
 
   no-length : (bytes : List ℕ) → JoinsReports on path before now bytes answers.TooLong → ⊥
-  no-length bytes h = never (reports_of bytes) h
-    where
-      file : (rs : List SettledView) (r : Result JournalView Refusal) (first : ℕ) → MatchResult r (λ j. JoinsJournal rs j first answers.TooLong) (λ refusal. answers.TooLong ≡ answers.Journal (error_of refusal)) → ⊥
-      file rs (Ok j) first h = not-joined rs j first answers.TooLong (λ e same. cc) (λ dp own starts h. h) h
-      file rs (Err refusal) first same = cc
-
-      never : (r : Result (List SettledView) InstanceError) → MatchResult r (λ rs. ReadsNamed on (JoinsJournal rs) path before now answers.TooLong) (λ e. RefusesReport e answers.TooLong × (now ≡ before)) → ⊥
-      never (Ok rs) h = file rs (journal_of h.right.file) _ h.right.right
-      never (Err e) h = h.0
+  no-length = never-told answers.TooLong (λ e h. h) (λ e same. cc) (λ dp own starts rs j first h. h) (λ rs h. h)
 
   -- what is answered to a text is answered to the input
   pub input-told : (r : Readings) (bytes : List ℕ) (answer : Answer) → WasRead cover_limit r bytes → (answer ≡ answers.OutOfMemory) ⊎ JoinsReports on path before now bytes answer
@@ -213,3 +212,11 @@ module _ {D : Type 0} (on : Ghosts D) (path : List ℕ) (before now : D) where
   -- reports that were read
   pub text-joined : (bytes : List ℕ) (rs : List SettledView) → reports_of bytes ≡ Ok rs → (answer : Answer) → ReadsNamed on (JoinsJournal rs) path before now answer → JoinsReports on path before now bytes answer
   text-joined bytes rs read answer h = subst (λ (r : Result (List SettledView) InstanceError). MatchResult r (λ rs. ReadsNamed on (JoinsJournal rs) path before now answer) (λ e. RefusesReport e answer × (now ≡ before))) (sym read) h
+
+-- ---- what is left
+
+-- what is left after a text of reports is what is left after an input
+pub left-read : {D : Type 0} (on : Ghosts D) (path text : List ℕ) (r : Readings) (before now : D) → WasRead cover_limit r text → LeavesRead on path text before now
+    → LeavesAfterReports r (Attaches on path before now × IsUnwritten on now) before now
+left-read on path text r before now read (inl same) = inl same
+left-read on path text r before now read (inr h) = inr ((h.0, h.1), (text, read, h.2))

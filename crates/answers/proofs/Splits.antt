@@ -1,10 +1,10 @@
 -- A part that is dealt out of a stopped search.
-use Rattle.std.proofs.Common.{◌≡◌, ◌≤◌, ℕ, ℤ, List, [], ◌∷◌, Result, Ok, Err, arith}
+use Rattle.std.proofs.Common.{◌≡◌, ℕ, ℤ, List, [], ◌∷◌, Result, Ok, Err, arith}
 use Rattle.std.specs.Prelude.{MatchResult}
 use Rattle.dp_model.specs.Distances.{IsDistance}
 use Rattle.dp_model.specs.Dp.{Dp}
 use Rattle.dp_model.specs.Laws.{IsLawful}
-use Rattle.board_laws.specs.Board.{AreSettings, BoardState}
+use Rattle.board_laws.specs.Board.{AreSettings}
 use Rattle.board_laws.specs.GoodBoard.{IsBoard}
 use Rattle.board_laws.proofs.Restoring.{restored-boards-keep}
 use Rattle.frontier_parts.specs.Dealing.{is_dealt}

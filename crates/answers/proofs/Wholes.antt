@@ -1,10 +1,9 @@
 -- What is told of a whole problem whose cover is accepted.
-use Rattle.std.proofs.Common.{◌≡◌, ℕ, ◌<◌, ◌≤◌, ◌^◌, ℤ, pos, true, List, [], length, Option, Some, None, Vec, refl, sym, ap, ◌∙◌, subst, arith}
-use Rattle.std.specs.Prelude.{Ok, MatchResult}
+use Rattle.std.proofs.Common.{◌≡◌, ℕ, ◌^◌, ℤ, pos, true, List, length, Option, Some, None, Vec, refl, sym, ap, ◌∙◌, subst, arith}
+use Rattle.std.specs.Prelude.{Ok}
 use Rattle.std.specs.declared.alloc.Global.{Global}
 use Rattle.std.proofs.lemmas.Int.{ints}
 use Rattle.dp_model.specs.Dp.{Dp}
-use Rattle.dp_model.specs.Distances.{IsDistance}
 use Rattle.dp_model.specs.Laws.{IsLawful}
 use Rattle.bound_cover.specs.Covers.{CoverRow}
 use Rattle.bound_cover.specs.Verdicts.{checked, verdict}
@@ -21,12 +20,9 @@ use Rattle.problem_theory.specs.Theory.{Agrees, Theory}
 use Rattle.solver_report.specs.Report.{count_lines, distance_told, is_final, outcome_lines, report, value_told}
 use Rattle.solver_report.specs.declared.answer.Answer.TheVariants as answers
 use Rattle.solver_report.specs.declared.answer.Outcome.{Outcome}
-use Rattle.solver_report.specs.declared.answer.Outcome.TheVariants.{Proved, Infeasible, Stopped}
-use Rattle.answers.specs.Checks.{Checks, IsTrueReport}
-use Rattle.answers.specs.Covers.{IsAccepted}
-use Rattle.answers.specs.Joins.{IsClaimOf, IsWhole, TellsWhole}
+use Rattle.answers.specs.Checks.{Checks}
+use Rattle.answers.specs.Joins.{IsClaimOf, IsWhole}
 use Rattle.answers.specs.Outcomes.{IsTrueOf}
-use Rattle.answers.specs.Parts.{own_in, program_in}
 use Rattle.answers.proofs.Covered.{assignment_told, claim_told, told-fits, true-told, whole-printed, part-short, checks-read}
 use Rattle.answers.proofs.Reports.{true-report}
 

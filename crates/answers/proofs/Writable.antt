@@ -1,5 +1,5 @@
 -- Bounds that a text can hold, tested one after another.
-use Rattle.std.proofs.Common.{◌≡◌, ℕ, zero, suc, ◌+◌, ◌<◌, ◌≤◌, List, [], ◌∷◌, length, drop, slice_get, ℤ, Option, Some, None, subst, arith}
+use Rattle.std.proofs.Common.{◌≡◌, ℕ, zero, suc, ◌+◌, ◌<◌, ◌≤◌, List, [], ◌∷◌, length, drop, slice_get, ℤ, Option, Some, subst, arith}
 use Rattle.std.specs.Prelude.{option_map}
 use Rattle.dp_model.specs.Lists.{Each}
 use Rattle.bound_cover.specs.Clamping.{IsWritable, AreWritable}

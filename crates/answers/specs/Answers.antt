@@ -1,5 +1,5 @@
 -- When what a job answers for an instance is right.
-use Rattle.std.specs.Prelude.{◌≡◌, ◌≢◌, ℕ, ◌-◌, ◌^◌, ◌<◌, ◌≤◌, Bool, true, false, ◌&&◌, ℤ, pos, ◌≤ℤ◌, List, Option, Some, None, is_some, MatchResult}
+use Rattle.std.specs.Prelude.{◌≡◌, ◌≢◌, ℕ, ◌-◌, ◌^◌, ◌<◌, Bool, true, false, ◌&&◌, ℤ, pos, List, Option, Some, None, is_some, MatchResult}
 use Rattle.dp_model.specs.Dp.{Dp}
 use Rattle.dp_model.specs.declared.cut_kind.CutKind.TheVariants.{LastExactLayer}
 use Rattle.problem_names.specs.declared.ModelName.{ModelName}

@@ -1,6 +1,7 @@
 -- How a run of the program ends.
-use Rattle.std.specs.Prelude.{◌≡◌, ℕ, ℤ, ◌+◌, ◌^◌, ◌≤◌, ◌==◌, if◌then◌else◌, true, false, List, [], length, Option, Some, None, IfSome, IsOkAnd, Ok, Err, ◌⊎◌}
+use Rattle.std.specs.Prelude.{◌≡◌, ℕ, ℤ, ◌+◌, ◌^◌, ◌≤◌, ◌==◌, if◌then◌else◌, true, false, List, [], length, Option, Some, None, IfSome, IsOkAnd, Ok, Err, ◌⊎◌, IsOk}
 use Rattle.disk.specs.declared.disk.Disk.{Ghosts}
+use Rattle.part_text.specs.Reports.{reports_of}
 use Rattle.problem_names.specs.declared.ModelName.{ModelName}
 use Rattle.std.specs.Io.KnownBytes.{append_known}
 use Rattle.streams.specs.Counts.{Rose}
@@ -16,9 +17,9 @@ use Rattle.answers.specs.Answers.{DigestsText, Draws, SolvesPart, SolvesText}
 use Rattle.answers.specs.Checks.{IsChecked}
 use Rattle.answers.specs.Covers.{cover_limit}
 use Rattle.answers.specs.Joins.{IsJoined}
-use Rattle.answers.specs.Journals.{Attaches, HasLeftBegun}
+use Rattle.answers.specs.Journals.{Attaches, HasLeftBegun, IsUnwritten}
 use Rattle.answers.specs.Kept.{LeavesAfterResume, MayFollow, RepliesKept, Resumes, ResumesOffered, head_of}
-use Rattle.answers.specs.ReportsJoined.{JoinsReports, LeavesRead}
+use Rattle.answers.specs.ReportsJoined.{JoinsReports}
 use Rattle.answers.specs.Splits.{Splits}
 
 -- the source as the run found it and left it: the bytes that are left, where they are told, and how many calls have failed
@@ -92,6 +93,10 @@ unread Fault = answers.ReadFault
 unread TooLong = answers.TooLong
 unread OutOfMemory = answers.OutOfMemory
 
+-- the disk is as it was; or the input was read whole and spells reports, and what is left is this
+abbrev pub LeavesAfterReports : {D : Type 0} → Readings → Type 0 → D → D → Type 0
+LeavesAfterReports r Left before now = (now ≡ before) ⊎ (Left × ((bytes : List ℕ) × WasRead cover_limit r bytes × IsOk (reports_of bytes)))
+
 module _ {D : Type 0} (on : Ghosts D) where
   -- the disk is as it was; or the named file was attached, the input was read whole and spells an instance, and a crash has left what a journal of it leaves that
   -- has begun
@@ -110,11 +115,12 @@ module _ {D : Type 0} (on : Ghosts D) where
       IsInputAnswer text_limit (RepliesKept on name search before now) r answer × LeavesOfSearch name search.within path r before now
   IsJobAnswer (resume path search false) r before now answer = IsUntouched r × Resumes on [] search before now answer × LeavesAfterResume on MayFollow path before now
   IsJobAnswer (resume path search true) r before now answer =
-      IsInputAnswer cover_limit (ResumesOffered on search before now) r answer × ((now ≡ before) ⊎ LeavesAfterResume on MayFollow path before now)
+      IsInputAnswer cover_limit (ResumesOffered on search before now) r answer × LeavesAfterReports r (LeavesAfterResume on MayFollow path before now) before now
   IsJobAnswer (split path part) r before now answer = IsUntouched r × Splits on part path before now answer
   IsJobAnswer check r before now answer = IsInputAnswer cover_limit IsChecked r answer × (now ≡ before)
   IsJobAnswer join r before now answer = IsInputAnswer cover_limit IsJoined r answer × (now ≡ before)
-  IsJobAnswer (join_reports path) r before now answer = IsInputAnswer cover_limit (JoinsReports on path before now) r answer × LeavesRead on path before now
+  IsJobAnswer (join_reports path) r before now answer =
+      IsInputAnswer cover_limit (JoinsReports on path before now) r answer × LeavesAfterReports r (Attaches on path before now × IsUnwritten on now) before now
   IsJobAnswer (digest name) r before now answer = IsInputAnswer text_limit (DigestsText (theory_of name)) r answer × (now ≡ before)
   IsJobAnswer (generate name n seed solved) r before now answer = IsUntouched r × Draws (theory_of name) n seed solved answer × (now ≡ before)
 

@@ -1,5 +1,5 @@
 -- When the answer to a search that keeps a journal is right.
-use Rattle.std.specs.Prelude.{◌≡◌, ◌⊎◌, ℕ, ℤ, List, [], ◌∷◌, cond, Option, Some, None, MatchResult, IfOk, IsSome, IsTrue}
+use Rattle.std.specs.Prelude.{◌≡◌, ℕ, ℤ, List, [], ◌∷◌, cond, Option, Some, None, MatchResult, IfOk, IsSome}
 use Rattle.disk.specs.declared.disk.Disk.{Ghosts}
 use Rattle.disk.specs.Counts.{Rose}
 use Rattle.dp_model.specs.Dp.{Dp}

@@ -1,5 +1,5 @@
 -- What is told of the search of a part, which begins with some start prefixes, and when it is true.
-use Rattle.std.specs.Prelude.{◌≡◌, ℕ, ℤ, List, [], ◌∷◌, cond, Option, Some, None}
+use Rattle.std.specs.Prelude.{◌≡◌, ℕ, ℤ, List, Option, Some, None}
 use Rattle.dp_model.specs.Distances.{IsDistance}
 use Rattle.dp_model.specs.Dp.{Dp}
 use Rattle.dp_model.specs.Numbers.{AtMost}

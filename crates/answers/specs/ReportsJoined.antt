@@ -1,5 +1,5 @@
 -- When what is answered to the reports of all parts of a stopped search is right.
-use Rattle.std.specs.Prelude.{◌≡◌, ◌≢◌, ◌⊎◌, ℕ, ◌+◌, ◌<◌, ℤ, List, [], ◌∷◌, length, Option, Some, None, MatchResult, IfSome}
+use Rattle.std.specs.Prelude.{◌≡◌, ◌≢◌, ◌⊎◌, ℕ, ◌+◌, ◌<◌, ℤ, List, [], ◌∷◌, length, Option, Some, None, MatchResult, IfSome, IsOk}
 use Rattle.disk.specs.declared.disk.Disk.{Ghosts}
 use Rattle.dp_model.specs.Dp.{Dp}
 use Rattle.dp_model.specs.Lists.{Each}
@@ -162,6 +162,6 @@ module _ {D : Type 0} (on : Ghosts D) where
   JoinsReports path before now bytes answer =
       MatchResult (reports_of bytes) (λ rs. ReadsNamed on (JoinsJournal rs) path before now answer) (λ e. RefusesReport e answer × (now ≡ before))
 
-  -- the disk is as it was, or the named file was attached, and nothing was written
-  abbrev pub LeavesRead : List ℕ → D → D → Type 0
-  LeavesRead path before now = (now ≡ before) ⊎ (Attaches on path before now × IsUnwritten on now)
+  -- the disk is as it was; or the bytes spell reports, the named file was attached, and nothing was written
+  abbrev pub LeavesRead : List ℕ → List ℕ → D → D → Type 0
+  LeavesRead path bytes before now = (now ≡ before) ⊎ (Attaches on path before now × IsUnwritten on now × IsOk (reports_of bytes))

@@ -1,6 +1,6 @@
 //! Reports of the parts of a stopped search, joined to that of the search.
 
-ghost use Rattle.std.specs.Prelude.{◌≡◌, ◌⊎◌, ◌<◌, ◌-◌, ◌^◌, ℕ, ℤ, List, length, map, option_map, is_some, IfErr, IfOk, OnOk};
+ghost use Rattle.std.specs.Prelude.{◌≡◌, ◌⊎◌, ◌<◌, ◌-◌, ◌^◌, ℕ, ℤ, List, length, map, option_map, is_some, IfErr, IfOk, MatchResult, OnOk};
 ghost use Rattle.dp_model.specs.Distances.{IsDistance};
 ghost use Rattle.dp_model.specs.Dp.{Dp};
 ghost use Rattle.board_laws.specs.Board.{value_held};
@@ -12,7 +12,8 @@ ghost use Rattle.part_reports.specs.Reports.{report_view, AreReports, Refuses};
 ghost use Rattle.part_text.specs.Reports.{SettledView, settled_view};
 ghost use Rattle.problems.specs.Theories.{theory_of};
 ghost use Rattle.answers.specs.Covers.{cover_limit};
-ghost use Rattle.answers.specs.Ended.{IsInputAnswer, readings};
+ghost use Rattle.answers.specs.Ended.{IsInputAnswer, LeavesAfterReports, readings};
+ghost use Rattle.answers.specs.Journals.{Attaches, IsUnwritten};
 ghost use Rattle.answers.specs.Opened.{ReadsNamed};
 ghost use Rattle.answers.specs.Offers.{parts_told};
 ghost use Rattle.answers.specs.ReportsJoined.{AreWithin, DistancesGive, DoesNotJoin, HasBest, HasJoined, JoinsIn, JoinsJournal, JoinsReports, LeavesRead, RefusesReports, joined_answer, joined_of, starts_for, told_solution, whole_outcome};
@@ -44,7 +45,7 @@ pub fn answer_reports<S: Source, D: Disk>(
     disk: &mut D,
 ) -> Answer
     ensures answer { IsInputAnswer cover_limit (JoinsReports D.Disk path.now disk.old disk.new) (readings S.left S.faults input.old input.new) result }
-    ensures left { LeavesRead D.Disk path.now disk.old disk.new }
+    ensures left { LeavesAfterReports (readings S.left S.faults input.old input.new) (Attaches D.Disk path.now disk.old disk.new × IsUnwritten D.Disk disk.new) disk.old disk.new }
 {
     match read_all(alloc, input, COVER_LIMIT) {
         Ok(text) => join_text(alloc, text.as_slice(), path, disk),
@@ -56,7 +57,7 @@ pub fn answer_reports<S: Source, D: Disk>(
 fn join_text<D: Disk>(alloc: Global, bytes: &[u8], path: &str, disk: &mut D) -> Answer
     requires { length bytes.now < 2 ^ 32 - 1 }
     ensures joins { (result ≡ Answer.OutOfMemory) ⊎ JoinsReports D.Disk path.now disk.old disk.new bytes.now result }
-    ensures left { LeavesRead D.Disk path.now disk.old disk.new }
+    ensures left { LeavesRead D.Disk path.now bytes.now disk.old disk.new }
 {
     match read_reports(alloc, bytes) {
         Ok(reports) => join_named(alloc, reports, path, disk),
@@ -196,8 +197,8 @@ fn joined_best<M: DpModel>(
     reports: Vec<SettledReport>,
 ) -> Result<Option<Solution>, Answer>
     requires { IsDistance records.now.within }
-    ensures joined { IfOk result (HasJoined (M.meaning (M.numbers model)) records.now.within digest.now records.now.records (map settled_view reports.items)) }
-    ensures refused { IfErr result (DoesNotJoin (M.meaning (M.numbers model)) records.now.within digest.now records.now.first records.now.records (map settled_view reports.items)) }
+    ensures { MatchResult result (HasJoined (M.meaning (M.numbers model)) records.now.within digest.now records.now.records (map settled_view reports.items))
+        (DoesNotJoin (M.meaning (M.numbers model)) records.now.within digest.now records.now.first records.now.records (map settled_view reports.items)) }
 {
     let Ok(model) = Arc::new(alloc, model) else {
         return Err(Answer::OutOfMemory);

@@ -1,5 +1,5 @@
 -- The reports before a place are right.
-use Rattle.std.proofs.Common.{ℕ, ◌+◌, List, ◌∷◌, Option, Some, None, inl, inr}
+use Rattle.std.proofs.Common.{ℕ, ◌+◌, List, ◌∷◌, Option, Some, None, inr}
 use Rattle.dp_model.specs.Dp.{Dp}
 use Rattle.part_reports.specs.Reports.{ReportView, IsReport, IsTested, FaultsGive, UntestedGives}
 use Rattle.part_reports.specs.declared.fault.ReportFault.{ReportFault}

@@ -1,12 +1,12 @@
 -- The best solution of an incumbent and of reports has the joined value, and is feasible.
-use Rattle.std.proofs.Common.{◌≡◌, ℕ, ◌+◌, ℤ, ◌≤ℤ◌, Bool, true, false, cond, List, [], ◌∷◌, Option, Some, None, refl, ◌∙◌, ap, subst, arith}
+use Rattle.std.proofs.Common.{◌≡◌, ℕ, ◌+◌, ℤ, Bool, true, false, cond, List, [], ◌∷◌, Option, Some, None, refl, ◌∙◌, ap, arith}
 use Rattle.std.proofs.lemmas.Int.{ints}
 use Rattle.std.specs.Prelude.{int_le, int_lt}
 use Rattle.dp_model.specs.Dp.{Dp}
 use Rattle.frontier_parts.specs.Settled.{better, joined}
 use Rattle.journal_bytes.specs.Bodies.{IncumbentView}
 use Rattle.part_reports.specs.Best.{best_of_all, better_one, value_in}
-use Rattle.part_reports.specs.Reports.{AreReports, IsTested, ReportView, value_told, values_told}
+use Rattle.part_reports.specs.Reports.{AreReports, IsTested, ReportView, values_told}
 
 -- the value of the better one is the greater one
 better-value : (one other : Option IncumbentView) → value_in (better_one one other) ≡ better (value_in one) (value_in other)

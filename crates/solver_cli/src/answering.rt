@@ -1,13 +1,14 @@
-ghost use Rattle.std.specs.Prelude.{◌≡◌, ◌⊎◌, None, map, string_bytes};
+ghost use Rattle.std.specs.Prelude.{◌≡◌, None, map, string_bytes};
 ghost use Rattle.problem_names.specs.Parts.{IsPart};
 ghost use Rattle.problems.specs.Theories.{theory_of};
 ghost use Rattle.solver_words.specs.Possible.{IsPossible, MayDraw, MaySearch};
 ghost use Rattle.solver_words.specs.Words.{job_view};
 ghost use Rattle.answers.specs.Answers.{DigestsText, Draws, SolvesPart, SolvesText};
 ghost use Rattle.answers.specs.Covers.{cover_limit};
-ghost use Rattle.answers.specs.Ended.{IsInputAnswer, IsJobAnswer, IsRight, LeavesOfSearch, readings, text_limit};
+ghost use Rattle.answers.specs.Ended.{IsInputAnswer, IsJobAnswer, IsRight, LeavesAfterReports, LeavesOfSearch, readings, text_limit};
+ghost use Rattle.answers.specs.Journals.{Attaches, IsUnwritten};
 ghost use Rattle.answers.specs.Kept.{LeavesAfterResume, MayFollow, RepliesKept, ResumesOffered};
-ghost use Rattle.answers.specs.ReportsJoined.{JoinsReports, LeavesRead};
+ghost use Rattle.answers.specs.ReportsJoined.{JoinsReports};
 ghost use Rattle.answers.specs.Splits.{Splits};
 
 use crate::drawing::draw;
@@ -192,7 +193,7 @@ fn resume_input<S: Source, D: Disk + Send, G: Gate + Sync, R: Threads + Wait + S
     requires may { MaySearch search }
     requires coverless { search.cover_words ≡ None }
     ensures answer { IsInputAnswer cover_limit (ResumesOffered D.Disk search disk result.1) (readings S.left S.faults input.old input.new) result.0 }
-    ensures left { (result.1 ≡ disk) ⊎ LeavesAfterResume D.Disk MayFollow path.now disk result.1 }
+    ensures left { LeavesAfterReports (readings S.left S.faults input.old input.new) (LeavesAfterResume D.Disk MayFollow path.now disk result.1) disk result.1 }
 {
     match read_offers(run.alloc, input) {
         Ok(offers) => resume(run, path, search, offers.as_slice(), disk),
@@ -222,7 +223,7 @@ fn join_named<S: Source, D: Disk, G: Gate + Sync, R: Threads + Wait + Sync>(
     mut disk: D,
 ) -> (Answer, D)
     ensures answer { IsInputAnswer cover_limit (JoinsReports D.Disk path.now disk result.1) (readings S.left S.faults input.old input.new) result.0 }
-    ensures left { LeavesRead D.Disk path.now disk result.1 }
+    ensures left { LeavesAfterReports (readings S.left S.faults input.old input.new) (Attaches D.Disk path.now disk result.1 × IsUnwritten D.Disk result.1) disk result.1 }
 {
     let answer = answer_reports(run.alloc, input, path, &mut disk);
     (answer, disk)

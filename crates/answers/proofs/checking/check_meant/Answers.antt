@@ -1,4 +1,4 @@
-use Rattle.std.proofs.Common.{◌≡◌, ℤ, List, Some, None, subst, sym}
+use Rattle.std.proofs.Common.{ℤ, List, Some, None, subst, sym}
 use Rattle.cover_text.specs.Texts.{held_with, opened_in}
 use Rattle.parts.specs.Part.{part_of_numbers}
 use Rattle.problem_theory.specs.Theory.{Agrees}

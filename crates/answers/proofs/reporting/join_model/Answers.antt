@@ -3,7 +3,6 @@ use Rattle.dp_model.specs.Laws.{IsLawful}
 use Rattle.journal_bytes.specs.Journal.{journal_view}
 use Rattle.part_text.specs.Reports.{settled_view}
 use Rattle.problem_theory.specs.Theory.{Agrees}
-use Rattle.solver_report.specs.declared.answer.Answer.{Answer}
 use Rattle.answers.specs.ReportsJoined.{HasJoined, JoinsIn, starts_for}
 use Rattle.answers.proofs.ReportsJoined.{joins-told}
 use Rattle.answers.proofs.reporting.join_model.Given as given
@@ -23,6 +22,6 @@ returns-in-Ok g c =
     let rs = map settled_view c.args.reports.items in
     let j = journal_view (c.args.head.now, c.args.records.now, c.args.tail) in
     let there : is_some (starts_for c.args.head.now.part c.args.records.now.records) ≡ true = sym c.has_starts.ensures ∙ c.if-not-has_starts.false in
-    let joined = subst (λ (w : ℤ). HasJoined dp w c.args.tail.digest c.args.records.now.records rs c.in-Ok.best) c.requires.within c.in-Ok.ensures.joined in
+    let joined = subst (λ (w : ℤ). HasJoined dp w c.args.tail.digest c.args.records.now.records rs c.in-Ok.best) c.requires.within c.in-Ok.ensures in
     subst (JoinsIn dp own (starts_for c.args.head.now.part c.args.records.now.records) rs j c.args.records.now.first) (sym c.joined_answer.ensures)
     (joins-told dp (laws_of g c.args.model) own (agrees_of g c.args.model) rs j c.requires.distance c.args.records.now.first there c.in-Ok.best joined)

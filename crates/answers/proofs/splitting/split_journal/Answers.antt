@@ -5,25 +5,17 @@ use Rattle.journal_bytes.specs.declared.head.Head.{Head}
 use Rattle.journal_bytes.specs.declared.tail.Tail.{Tail}
 use Rattle.journal_file.specs.declared.error.JournalError.{JournalError}
 use Rattle.answers.specs.Splits.{SplitsJournal}
-use Rattle.answers.proofs.Opened.{for-opened, for-unopened}
+use Rattle.answers.proofs.Opened.{reads-opened, reads-unopened}
 use Rattle.answers.proofs.Splits.{split-not-disk}
 use Rattle.answers.proofs.splitting.split_journal.Goals as goal
 
 pub returns-in-Ok : goal.returns-in-Ok
 returns-in-Ok g c =
-    let now = c.open_journal.new.disk in
     let r : Head × RecordsView × Tail = (c.in-Ok.head, c.in-Ok.records, c.in-Ok.tail) in
-    record {
-      attaches = c.open_journal.ensures.attaches;
-      unwritten = c.open_journal.ensures.unwritten;
-      right = for-opened g.D.Disk (SplitsJournal c.args.part) c.args.disk.now now r c.in-Ok.ensures.opened c.in-Ok.ensures.began (split-not-disk c.args.part (journal_view r) c.in-Ok.records.first) c.split_opened.result c.split_opened.ensures;
-    }
+    reads-opened g.D.Disk (SplitsJournal c.args.part) c.args.disk.now c.open_journal.new.disk c.args.path.now c.open_journal.ensures.attaches c.open_journal.ensures.unwritten
+    r c.in-Ok.ensures.opened c.in-Ok.ensures.began (split-not-disk c.args.part (journal_view r) c.in-Ok.records.first) c.split_opened.result c.split_opened.ensures
 
 pub returns-in-Err : goal.returns-in-Err
 returns-in-Err g c =
-    let now = c.open_journal.new.disk in
-    record {
-      attaches = c.open_journal.ensures.attaches;
-      unwritten = c.open_journal.ensures.unwritten;
-      right = for-unopened g.D.Disk (SplitsJournal c.args.part) c.args.disk.now now c.in-Err.error c.in-Err.ensures.opened (λ is. c.in-Err.ensures.disk (ap (λ (e : JournalError). Err e) is));
-    }
+    reads-unopened g.D.Disk (SplitsJournal c.args.part) c.args.disk.now c.open_journal.new.disk c.args.path.now c.open_journal.ensures.attaches c.open_journal.ensures.unwritten
+    c.in-Err.error c.in-Err.ensures.opened (λ is. c.in-Err.ensures.disk (ap (λ (e : JournalError). Err e) is))

@@ -1,8 +1,8 @@
-use Rattle.std.proofs.Common.{◌≡◌, ℤ, sym, subst, ◌∙◌, ap}
+use Rattle.std.proofs.Common.{ℤ, sym, subst}
 use Rattle.dp_model.specs.Distances.{IsDistance}
 use Rattle.dp_model.specs.Laws.{IsLawful}
 use Rattle.journal_bytes.specs.Bodies.{RecordView}
-use Rattle.journal_bytes.specs.Journal.{head_view, journal_view}
+use Rattle.journal_bytes.specs.Journal.{journal_view}
 use Rattle.journal_bytes.specs.Spelling.{HasTickets}
 use Rattle.answers.specs.Splits.{IsFileOf, part_head, part_record}
 use Rattle.answers.proofs.Splits.{split-told}

@@ -1,4 +1,4 @@
-use Rattle.std.proofs.Common.{◌≡◌, ◌∙◌, sym, ap, subst, length, map, option_map, None}
+use Rattle.std.proofs.Common.{◌∙◌, sym, ap, subst, length, map, option_map, None}
 use Rattle.journal_bytes.specs.Views.{incumbent_view}
 use Rattle.part_reports.specs.Best.{value_in}
 use Rattle.part_reports.specs.Reports.{report_view, FaultsGive, IsTested}
