@@ -1,5 +1,5 @@
 -- A kept board after offers, and what they are worth.
-use Rattle.std.proofs.Common.{◌≡◌, ◌≢◌, ◌⊎◌, inl, inr, ⊎_elim, ℕ, ◌≤◌, ◌<◌, ℤ, List, [], ◌∷◌, ◌++◌, Bool, Option, Some, None, IsSome, is_some, Result, IfOk, Vec, Global, refl, sym, ap, subst, ◌∙◌, arith, drop, length, map}
+use Rattle.std.proofs.Common.{◌≡◌, ◌≢◌, ◌⊎◌, inl, inr, ⊎_elim, ℕ, ◌≤◌, ◌<◌, ℤ, List, [], ◌∷◌, ◌++◌, Bool, Option, Some, IsSome, is_some, Result, IfOk, Vec, Global, refl, sym, ap, subst, ◌∙◌, arith, drop, length, map}
 use Rattle.std.specs.Prelude.{get_or}
 use Rattle.std.specs.declared.alloc.AllocError.{AllocError}
 use Rattle.disk.specs.declared.disk.Disk.{Ghosts}

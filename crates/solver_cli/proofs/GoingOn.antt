@@ -1,5 +1,5 @@
 -- A search that goes on from a journal.
-use Rattle.std.proofs.Common.{◌≡◌, ◌≤◌, ◌⊎◌, inl, inr, ⊎_elim, ℕ, ◌+◌, ℤ, pos, List, [], ◌∷◌, Bool, true, false, ◌&&◌, Option, None, is_some, IsSome, IfSome, IsTrue, Result, Ok, Err, IfOk, IfErr, Vec, Global, cond, refl, sym, subst, ap, arith, ◌∙◌, Some}
+use Rattle.std.proofs.Common.{◌≡◌, ◌⊎◌, inl, inr, ⊎_elim, ℕ, ℤ, List, [], ◌∷◌, Bool, true, false, ◌&&◌, Option, None, is_some, IsSome, IsTrue, Result, Ok, Err, IfOk, IfErr, Vec, Global, cond, refl, sym, subst, ap, ◌∙◌, Some}
 use Rattle.std.specs.Prelude.{MatchResult}
 use Rattle.std.specs.declared.alloc.AllocError.{AllocError}
 use Rattle.disk.specs.declared.disk.Disk.{Ghosts}
@@ -11,7 +11,6 @@ use Rattle.dp_model.specs.Laws.{IsLawful}
 use Rattle.board_laws.specs.Board.{BoardState}
 use Rattle.board_laws.specs.GoodBoard.{IsGood}
 use Rattle.board_laws.specs.declared.settings.Settings.{Settings}
-use Rattle.journal_bytes.specs.Base.{base_offset, following_record, from_base}
 use Rattle.journal_bytes.specs.Bodies.{RecordView, RecordsView}
 use Rattle.journal_bytes.specs.Frames.{frames_of}
 use Rattle.journal_bytes.specs.Journal.{HeadView, HasRecords, JournalView, after_head, head_view, journal_of, journal_view}
@@ -23,8 +22,8 @@ use Rattle.journal_bytes.specs.declared.refusal.Refusal.TheVariants as bytes
 use Rattle.journal_file.specs.Refusing.{IsRefusal, error_of}
 use Rattle.journal_file.specs.declared.error.JournalError.{JournalError}
 use Rattle.journal_file.specs.declared.error.JournalError.TheVariants as errors
-use Rattle.journal_replay.specs.Accepting.{AreAccepted, AreRefused, IsFirstWrong}
-use Rattle.journal_replay.specs.Replay.{Replayed, after_record, replay_of, replay_start, restored_from}
+use Rattle.journal_replay.specs.Accepting.{AreAccepted}
+use Rattle.journal_replay.specs.Replay.{replay_of, restored_from}
 use Rattle.journal_replay.specs.Parts.{starts_of}
 use Rattle.journal_replay.specs.Sound.{AreSound}
 use Rattle.journal_replay.proofs.Joined.{sound-restore-good}
@@ -35,7 +34,6 @@ use Rattle.problem_theory.specs.Theory.{Agrees, Theory}
 use Rattle.problems.specs.Theories.{theory_of}
 use Rattle.solver_report.specs.declared.answer.Answer.{Answer}
 use Rattle.solver_report.specs.declared.answer.Answer.TheVariants as answers
-use Rattle.solver_report.specs.declared.answer.Counts.{Counts}
 use Rattle.solver_report.specs.declared.answer.Outcome.{Outcome}
 use Rattle.solver_report.specs.declared.answer.Outcome.TheVariants as outcomes
 use Rattle.solver_report.specs.Report.{is_final}

@@ -1,5 +1,5 @@
 -- The answer to a search that goes on after the offers of an input is an answer to that input.
-use Rattle.std.proofs.Common.{◌≡◌, ℕ, ℤ, List, Option, Some, None, Result, Ok, Err, refl, sym, subst}
+use Rattle.std.proofs.Common.{◌≡◌, ℕ, ℤ, List, Option, Some, None, Result, Ok, Err, refl, subst}
 use Rattle.std.specs.Prelude.{IsOkAnd, MatchResult}
 use Rattle.disk.specs.declared.disk.Disk.{Ghosts}
 use Rattle.dp_model.specs.Dp.{Dp}

@@ -1,4 +1,4 @@
-use Rattle.std.proofs.Common.{inl, map}
+use Rattle.std.proofs.Common.{inl}
 use Rattle.std.proofs.lemmas.List.{take_rest}
 use Rattle.board_laws.specs.Board.{incumbent_value}
 use Rattle.board_laws.proofs.Carrying.{option-self}

@@ -1,4 +1,4 @@
-use Rattle.std.proofs.Common.{◌≡◌, ◌≢◌, ℤ, length, map, Option, Some, IsSome}
+use Rattle.std.proofs.Common.{◌≢◌, ℤ, length, map, Option, Some, IsSome}
 use Rattle.dp_model.specs.Numbers.{OptionAtMost}
 use Rattle.board_laws.specs.Board.{incumbent_value}
 use Rattle.board_laws.specs.declared.cause.Cause.TheVariants.{Journal}

@@ -6,7 +6,7 @@ use Rattle.problem_theory.specs.Theory.{Agrees}
 use Rattle.answers.specs.Kept.{MayBeAdded, ResumesIn, going_on}
 use Rattle.answers.proofs.Journaled.{none-follow}
 use Rattle.solver_cli.specs.Searches.{begins_with}
-use Rattle.solver_cli.proofs.GoingOn.{leaves-it, may-go-on, not-begun, resumes-in}
+use Rattle.solver_cli.proofs.GoingOn.{leaves-it, may-go-on, resumes-in}
 use Rattle.solver_cli.proofs.resuming.resume_model.Given as given
 use Rattle.solver_cli.proofs.resuming.resume_model.Goals as goal
 

@@ -1,7 +1,7 @@
 use Rattle.std.proofs.Common.{IfOk, subst}
 use Rattle.solver_cli.specs.Searches.{HasExplored}
 use Rattle.solver_cli.proofs.Over.{over, searched}
-use Rattle.solver_cli.proofs.Rising.{has-failed, rises, still-failed}
+use Rattle.solver_cli.proofs.Rising.{rises, still-failed}
 use Rattle.solver_cli.proofs.searching.search_from.Goals as goal
 
 pub concluded-requires-clause-over : goal.concluded-requires-clause-over
