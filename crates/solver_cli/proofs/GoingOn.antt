@@ -193,8 +193,8 @@ module _ {D : Type 0} (on : Ghosts D) where
     in-part : (part : Part) (starts : List (List ℕ)) (ended : Result Told Answer) → Told-by ended → Refused-by ended
         → GoesOnPart on dp own part starts head records.records records.first offers asked now (report_in (Some part) head.within ended)
     in-part part starts (Ok told) h why =
-        (refl, (h.0, subst (HasTaken (HasDiskFailed on now) dp offers) (sym (same-value head.within told.0)) h.1.0,
-        records_searched dp laws own agrees (going_on head asked) may records.records h.0 starts (AreSound dp head.within records.records) (HasKept on dp head records.records (LeavesResumed on head records.records) now) told.0 told.1 h.1.1))
+        (refl, (h.0, subst (HasTaken (HasDiskFailed on now) dp offers) (sym (same-value head.within told.0)) h.1,
+        records_searched dp laws own agrees (going_on head asked) may records.records h.0 starts (AreSound dp head.within records.records) (HasKept on dp head records.records (LeavesResumed on head records.records) now) told.0 told.1 h.2))
     in-part part starts (Err answer) h why = told-why-part dp own head records offers asked now part starts answer why.0
 
     begun-part : (part : Part) (ended : Result Told Answer) (rs : List RecordView) → begins_with (Some part) rs ≡ true

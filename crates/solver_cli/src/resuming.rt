@@ -80,7 +80,7 @@ fn resume_journal<D: Disk + Send, G: Gate + Sync, R: Threads + Wait + Sync>(
     requires distance { IsDistance head.now.within }
     requires within { records.now.within ≡ head.now.within }
     requires opened { IsOpened D.Disk (head_view tail.version head.now) records.now.records disk tail }
-    ensures resumes { (result.0 ≡ Answer.OutOfMemory) ⊎ ResumesJournal D.Disk (journal_view (head.now, records.now, tail)) records.now.first (map report_view asked.offers.now) asked.search result.1 result.0 }
+    ensures resumes { (result.0 ≡ Answer.OutOfMemory) ⊎ ResumesJournal D.Disk (journal_view (head.now, records.now, tail)) records.now.first (map report_view asked.entry.offers.now) asked.entry.search result.1 result.0 }
     ensures refused { TouchesNothing disk result.1 result.0 }
     ensures left { LeavesOpened D.Disk (MayFollow (head_view tail.version head.now) records.now.records) (head_view tail.version head.now) records.now.records disk result.1 }
 {
@@ -106,7 +106,7 @@ fn resume_on<P: Problem, D: Disk + Send, G: Gate + Sync, R: Threads + Wait + Syn
     requires distance { IsDistance head.now.within }
     requires within { records.now.within ≡ head.now.within }
     requires opened { IsOpened D.Disk (head_view tail.version head.now) records.now.records disk tail }
-    ensures resumes { (result.0 ≡ Answer.OutOfMemory) ⊎ ResumesJournal D.Disk (journal_view (head.now, records.now, tail)) records.now.first (map report_view asked.offers.now) asked.search result.1 result.0 }
+    ensures resumes { (result.0 ≡ Answer.OutOfMemory) ⊎ ResumesJournal D.Disk (journal_view (head.now, records.now, tail)) records.now.first (map report_view asked.entry.offers.now) asked.entry.search result.1 result.0 }
     ensures refused { TouchesNothing disk result.1 result.0 }
     ensures left { LeavesOpened D.Disk (MayFollow (head_view tail.version head.now) records.now.records) (head_view tail.version head.now) records.now.records disk result.1 }
 {
@@ -136,7 +136,7 @@ fn resume_model<P: Problem, D: Disk + Send, G: Gate + Sync, R: Threads + Wait + 
     requires distance { IsDistance head.now.within }
     requires within { records.now.within ≡ head.now.within }
     requires opened { IsOpened D.Disk (head_view tail.version head.now) records.now.records disk tail }
-    ensures resumes { ResumesIn D.Disk (P.meaning (P.numbers model)) (P.theory.own_value (P.numbers model)) head.now.part (head_view tail.version head.now) records.now.records records.now.first (map report_view asked.offers.now) asked.search result.1 result.0 }
+    ensures resumes { ResumesIn D.Disk (P.meaning (P.numbers model)) (P.theory.own_value (P.numbers model)) head.now.part (head_view tail.version head.now) records.now.records records.now.first (map report_view asked.entry.offers.now) asked.entry.search result.1 result.0 }
     ensures refused { TouchesNothing disk result.1 result.0 }
     ensures left { LeavesOpened D.Disk (MayBeAdded (P.meaning (P.numbers model)) head.now.within records.now.records) (head_view tail.version head.now) records.now.records disk result.1 }
 {
@@ -164,8 +164,8 @@ fn resume_search<P: Problem, D: Disk + Send, G: Gate + Sync, R: Threads + Wait +
     requires distance { IsDistance head.now.within }
     requires within { records.now.within ≡ head.now.within }
     requires opened { IsOpened D.Disk (head_view tail.version head.now) records.now.records disk tail }
-    ensures told { IfOk result.0 (λ told. IsToldOn D.Disk (P.meaning (P.numbers model)) (P.theory.own_value (P.numbers model)) (head_view tail.version head.now) records.now.records (map report_view asked.offers.now) (going_on (head_view tail.version head.now) asked.search) result.1 told.0 told.1) }
-    ensures refused { IfErr result.0 (λ answer. DoesNotTake (P.meaning (P.numbers model)) (going_on (head_view tail.version head.now) asked.search) records.now (map report_view asked.offers.now) answer × TouchesNothing disk result.1 answer) }
+    ensures told { IfOk result.0 (λ told. IsToldOn D.Disk (P.meaning (P.numbers model)) (P.theory.own_value (P.numbers model)) (head_view tail.version head.now) records.now.records (map report_view asked.entry.offers.now) (going_on (head_view tail.version head.now) asked.entry.search) result.1 told.0 told.1) }
+    ensures refused { IfErr result.0 (λ answer. DoesNotTake (P.meaning (P.numbers model)) (going_on (head_view tail.version head.now) asked.entry.search) records.now (map report_view asked.entry.offers.now) answer × TouchesNothing disk result.1 answer) }
     ensures left { LeavesOpened D.Disk (MayBeAdded (P.meaning (P.numbers model)) head.now.within records.now.records) (head_view tail.version head.now) records.now.records disk result.1 }
 {
     let search = going_on(head, asked.search);
