@@ -107,7 +107,7 @@ class PartResult:
     """What the search of a part of a split search found, and what is proved of the part.
 
     `part` is its number, how many parts there are, and the digest of the journal that was split. `value` and `assignment` are those of the
-    best solution that this part or the search before it found, or None where there is none. No solution of the part is worth more than
+    best solution that this part or the search before it found or that it was offered, or None where there is none. No solution of the part is worth more than
     `bound`; it is None where a settled part has no feasible solution. `text` is the report as the program printed it, which
     `Solver.join_parts` reads. The other fields are those of `Result`.
     """
