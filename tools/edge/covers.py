@@ -4,7 +4,7 @@
     tools/edge/covers.py PROGRAM TIMES SEED [OTHER]
 
 PROGRAM is the solver's binary. Each search has one to four workers, a width from 1 to 20, one of both cutsets, a distance from 0 to 20, and books of a drawn number of words, 0 among them. `check` has to accept each cover. OTHER
-is a second program with the same command `check`, which has to accept it too.
+is a second program with the same command `check`, which has to accept it too where it knows the problem.
 """
 import os
 import random
@@ -18,6 +18,9 @@ from edge import run
 SIZES = {"knapsack": (3, 14), "maxcut": (2, 11), "max2sat": (2, 11), "qubo": (2, 10), "tsptw": (3, 9), "tardiness": (2, 8)}
 
 WORDS = (0, 1, 50, 500, 5000, 50000, None)
+
+# What a program answers to the cover of a problem that it does not know: the word that stands in the head's line 4.
+UNKNOWN = (3, b"cover word 4 7\n")
 
 
 def drawn_words(draw, model):
@@ -48,6 +51,8 @@ def main():
                 continue
             for checker in [program, *others]:
                 told = run(checker, "check", folder, output)[:2]
+                if checker != program and told == UNKNOWN:
+                    continue
                 if told != (0, b"accepted\n"):
                     bad += 1
                     print("%s; %s: status %d, %s says %r" % (drawn, words, status, checker, told), flush=True)
