@@ -1,13 +1,14 @@
 #!/usr/bin/env python3
 """Searches that are split by their frontier, against the same searches whole: the table for docs/PERFORMANCE.md.
 
-    tools/plots/frontier.py PROGRAM NAME=MODEL:FILE .. [--parts 4,16,64] [--options "--width 100"] [--for-a-part 4] [--jobs N]
+    tools/plots/frontier.py PROGRAM NAME=MODEL:FILE .. [--parts 4,16,64] [--options "--width 100"] [--for-a-part 4] [--jobs N | --hand-on]
 
 FILE is an instance, or N,SEED for one that PROGRAM draws. Each is solved whole by one worker. A second search of it is stopped once it has
 FOR_A_PART open subproblems for each of the greatest number of parts. Its journal is split into each number of parts, which are resumed by one
-worker each, N at a time. Subproblems are the finished ones. Seconds are those of a processor, user and system, with what journals take. `After` is
-what the stopped search had finished, `Open` what it left, and `Split` the longest split. The status is 1 where a joined value is not that of
-the whole. TMPDIR is where the journals lie, best in memory.
+worker each, N at a time. With --hand-on they are resumed one after another, each with `--incumbent` and the reports of those before it.
+Subproblems are the finished ones. Seconds are those of a processor, user and system, with what journals take. `After` is what the stopped search
+had finished, `Open` what it left, and `Split` the longest split. The status is 1 where a joined value is not that of the whole. TMPDIR is where the
+journals lie, best in memory.
 """
 import argparse
 import os
@@ -60,16 +61,34 @@ def stopped(program, model, file, options, least, room):
         budget *= 2
 
 
-def part(program, journal, index, of, options, room):
-    """The seconds of a split, and the run of the part."""
+def part(program, journal, place, options, room, given=os.devnull):
+    """The seconds of a split, and the run of the part with this place, its number and how many there are. It may be given reports."""
+    index, of = place
     path = os.path.join(room, f"part-{index}-of-{of}")
     begun = Run([program, "split", journal, "--part", f"{index}/{of}"])
     with open(path, "wb") as file:
         file.write(begun.output)
-    run = Run([program, "resume", path, *options, "--stats"])
+    run = Run([program, "resume", path, *options, "--stats"], given)
     if begun.status or run.status:
         sys.exit(f"part {index} of {of}: {(begun if begun.status else run).output[:100]!r}")
     return begun.seconds, run
+
+
+def all_parts(asked, journal, of, room):
+    """What `part` gives for all parts, in order, and the file of their reports."""
+    options, reports = asked.options.split(), os.path.join(room, "reports")
+    if not asked.hand_on:
+        with ThreadPoolExecutor(asked.jobs) as pool:
+            found = list(pool.map(lambda index: part(asked.program, journal, (index, of), options, room), range(of)))
+        Path(reports).write_bytes(b"".join(run.output for _, run in found))
+        return found, reports
+    found = [part(asked.program, journal, (0, of), options, room)]
+    Path(reports).write_bytes(found[0][1].output)
+    for index in range(1, of):
+        found.append(part(asked.program, journal, (index, of), [*options, "--incumbent"], room, reports))
+        with open(reports, "ab") as out:
+            out.write(found[-1][1].output)
+    return found, reports
 
 
 def rows(asked, name, model, file, room):
@@ -80,11 +99,7 @@ def rows(asked, name, model, file, room):
     print(f"{name}: {finished} subproblems in {whole.seconds:.1f} s", file=sys.stderr, flush=True)
     journal, after, left = stopped(program, model, file, options, asked.for_a_part * max(asked.parts), room)
     for of in asked.parts:
-        with ThreadPoolExecutor(asked.jobs) as pool:
-            found = list(pool.map(lambda index: part(program, journal, index, of, options, room), range(of)))
-        reports = os.path.join(room, "reports")
-        with open(reports, "wb") as out:
-            out.writelines(run.output for _, run in found)
+        found, reports = all_parts(asked, journal, of, room)
         joined = Run([program, "join", "--journal", journal], reports)
         counts, seconds = [run.number("finished") for _, run in found], [run.seconds for _, run in found]
         yield joined.number("value") == value and joined.status == whole.status, (
@@ -103,7 +118,9 @@ def main():
     words.add_argument("--parts", type=lambda text: [int(it) for it in text.split(",")], default=[4, 16, 64], help="numbers of parts, 4,16,64 without it")
     words.add_argument("--options", default="", help="options of solve and resume, such as '--width 100'")
     words.add_argument("--for-a-part", type=int, default=4, help="open subproblems for each of the greatest number of parts, 4 without it")
-    words.add_argument("--jobs", type=int, default=1, help="how many parts at a time, 1 without it")
+    how = words.add_mutually_exclusive_group()
+    how.add_argument("--jobs", type=int, default=1, help="how many parts at a time, 1 without it")
+    how.add_argument("--hand-on", action="store_true", help="one part after another, each with the reports of those before")
     asked = words.parse_args()
     differ = 0
     print_row(HEADS)
