@@ -127,11 +127,13 @@ def page(text: str) -> str:
     head = [f'.TH {NAME.upper()} 1', ".SH NAME", rf"{NAME} \- {ABOUT}", ".SH SYNOPSIS"]
     for words in SYNOPSIS:
         head += [rf".B {NAME}", escaped(words), ".br"]
-    files = [".SH SEE ALSO", "The grammars and all printed texts stand in FORMATS.md, in the folder share/doc/hammockdove of the installation."]
+    files = [".SH SEE ALSO", "The grammars and all printed texts stand in docs/FORMATS.md, in the folder share/doc/hammockdove of the installation, which has the examples too."]
     return "\n".join([*head, ".SH DESCRIPTION", *body(text.replace("./hammockdove ", "hammockdove ")), *files]) + "\n"
 
 
 def main() -> int:
+    if len(sys.argv) < 2:
+        sys.exit(__doc__)
     for name in sys.argv[1:]:
         path = Path(name)
         if path.is_file():
