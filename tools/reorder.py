@@ -2,7 +2,7 @@
 """Puts an instance into a new order, which makes most searches much shorter: the items of a knapsack by falling profit for each unit of weight, the vertices of
 a cut and the variables of a MAX-2SAT instance by falling weight.
 
-    tools/reorder.py MODEL FILE < /dev/null          prints the instance of FILE, renumbered
+    tools/reorder.py MODEL FILE                      prints the instance of FILE, renumbered
     tools/reorder.py MODEL FILE --back < REPORT      prints a report on that, with its assignment in the numbers of FILE
 
 MODEL is knapsack, maxcut or max2sat. The weight of a vertex or a variable is the sum of the sizes of the weights that it has a part in. Nothing of
@@ -82,8 +82,13 @@ def main():
     if len(sys.argv) not in (3, 4) or sys.argv[1] not in readers or sys.argv[3:] not in ([], ["--back"]):
         sys.exit(__doc__)
     model = sys.argv[1]
-    with open(sys.argv[2], encoding="ascii") as file:
-        number, parts = readers[model](file.read().splitlines())
+    try:
+        with open(sys.argv[2], encoding="ascii") as file:
+            number, parts = readers[model](file.read().splitlines())
+    except OSError as fault:
+        sys.exit(f"reorder.py: {sys.argv[2]}: {fault.strerror}")
+    except (ValueError, IndexError):
+        sys.exit(f"reorder.py: {sys.argv[2]} is no instance of {model}; `solve {model}` tells the place of the fault")
     order = order_of_items(parts) if model == "knapsack" else order_of(number, parts)
     if len(sys.argv) == 3:
         print(reordered_items(number, parts, order) if model == "knapsack" else renumbered(model, number, parts, order))
