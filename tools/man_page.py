@@ -24,7 +24,7 @@ SYNOPSIS = (
     "digest MODEL",
     "generate MODEL N SEED [--solve]",
 )
-_INLINE = re.compile(r"`([^`]+)`|\*\*(.+?)\*\*|!?\[([^\]]*)\]\([^)]*\)")
+_INLINE = re.compile(r"`([^`]+)`|\*\*(.+?)\*\*|!?\[([^\]]*)\]\([^)]*\)|(?<![\w*])\*(\w[^*]*)\*(?![\w*])")
 _CONTENTS = re.compile(r"[-*] (\[[^\]]*\]\(#[^)]*\)(, )?)+\Z")
 _RULE = re.compile(r"\|[\s:|-]+\|\Z")
 
@@ -35,12 +35,12 @@ def escaped(text: str) -> str:
 
 
 def inline(text: str) -> str:
-    """A paragraph with code and strong words in bold, and links as their words."""
+    """A paragraph with code and strong words in bold, stressed ones in italics, and links as their words."""
     out: list[str] = []
     last = 0
     for found in _INLINE.finditer(text):
-        code, strong, link = found.groups()
-        words = inline(link) if link is not None else rf"\fB{escaped(code or strong)}\fR"
+        code, strong, link, stressed = found.groups()
+        words = inline(link) if link is not None else rf"\fI{escaped(stressed)}\fR" if stressed else rf"\fB{escaped(code or strong)}\fR"
         out += [escaped(text[last : found.start()]), words]
         last = found.end()
     return guarded("".join([*out, escaped(text[last:])]))

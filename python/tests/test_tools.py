@@ -75,12 +75,12 @@ class CommandTests(RoomCase):
 class ManPageTests(unittest.TestCase):
     def test_page(self):
         page = load(TOP / "tools/man_page.py").page(
-            "# Title\n\nFirst `--width N` words, **strong**, [a link](X.md).\n\n- [One](#one), [two](#two)\n\n## A part\n\n"
+            "# Title\n\nFirst `--width N` words, **strong**, *stressed*, 2 * 3 * 4, [a link](X.md).\n\n- [One](#one), [two](#two)\n\n## A part\n\n"
             "```\n$ ./hammockdove check\n.dot\n```\n\n| Option | What it does | Without it |\n|---|---|---|\n| `--width N` | a \\| b | 100 |\n\n"
             "- one\n  more\n- two\n<!-- left out -->\n"
         )
         for line in (
-            r"First \fB\-\-width N\fR words, \fBstrong\fR, a link.",
+            r"First \fB\-\-width N\fR words, \fBstrong\fR, \fIstressed\fR, 2 * 3 * 4, a link.",
             '.SH "A PART"',
             "$ hammockdove check",
             r"\&.dot",
