@@ -14,6 +14,7 @@ import unittest
 
 from support import PATIENCE, PROGRAM, SAMPLES, TEXT, TOP, ProgramCase, RoomCase, bytes_of, needs_program, small_search
 
+from hammockdove import ProgramFailed, Solver
 from hammockdove.__main__ import main
 
 
@@ -49,6 +50,11 @@ class CommandTests(RoomCase):
         self.assertEqual(err, f"{path}: line 1, column 7: MAX-2SAT has at most two literals in a clause, found '3'\n")
         self.assertEqual(said(main, "convert", "wcnf", self.room / "none")[0], 3)
 
+    def test_no_program(self):
+        solver = Solver("/nowhere/hammockdove")
+        for call in (lambda: solver.knows("knapsack"), lambda: solver.solve(("knapsack", "0 1\n"), journal=False)):
+            self.assertRaisesRegex(ProgramFailed, "does not start: No such file or directory; .HAMMOCKDOVE names the program", call)
+
     def test_show(self):
         path = self.room / "kept.journal"
         path.write_bytes(bytes_of(small_search(2)))
@@ -60,7 +66,9 @@ class CommandTests(RoomCase):
         path.write_bytes(bytes_of(small_search(2))[:150])
         status, out, err = said(main, "show", path)
         self.assertEqual((status, out.splitlines()[-1], err), (3, "end 137", f"{path}: journal damaged at byte 137: the file ends inside a record\n"))
-        self.assertEqual(said(main, "show", self.room / "none")[0], 3)
+        self.assertEqual(said(main, "show", self.room / "none")[::2], (3, f"{self.room / 'none'}: No such file or directory\n"))
+        path.write_bytes(b"no journal")
+        self.assertEqual(said(main, "show", path)[2], f"{path} holds no journal yet: it has at most one byte, or its first gate is closed\n")
 
     def test_watch_and_plot(self):
         path = self.room / "kept.journal"
