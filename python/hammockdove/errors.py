@@ -50,7 +50,26 @@ class TableRefused(Refused):
 
     def __init__(self, answer: str, status: int, fault: str, numbers: tuple[int, ...]) -> None:
         self.fault, self.numbers = fault, numbers
-        super().__init__(answer, status, f"table refused: {' '.join((fault, *map(str, numbers)))}")
+        super().__init__(answer, status, f"table refused, {' '.join((fault, *map(str, numbers)))}: {_of_table(fault, numbers)}")
+
+
+_LAWS = {
+    2: "a gap does not hold",
+    3: "the gap of a state to itself is not 0",
+    4: "a merge has no gap to what it stands for",
+    5: "a rough bound does not hold",
+    7: "gaps do not add up",
+}
+
+
+def _of_table(fault: str, numbers: tuple[int, ...]) -> str:
+    """What is wrong with a table, in words."""
+    if fault == "json":
+        return "the document is no JSON"
+    if fault == "shape" or len(numbers) != 4:
+        return f"layer {numbers[0]} has not the form of a layer" if numbers else "the document has not the form of a table"
+    law, layer, first, second = numbers
+    return f"{_LAWS.get(law, 'a law does not hold')}, at layer {layer} for {first} and {second}"
 
 
 class CoverRefused(Refused):

@@ -117,6 +117,8 @@ class AnswerTests(unittest.TestCase):
         self.assertTrue(str(error_of(b"journal damaged 67\n", 5)).startswith("journal refused, damaged at byte 67: something other than a crash"))
         self.assertIn("another program works on it", str(error_of(b"disk fault\n", 10)))
         self.assertIn("in order", str(error_of(b"reports order 1\n", 3)))
+        self.assertIn("layer 2 has not the form", str(error_of(b"table shape 2\n", 3)))
+        self.assertIn("a rough bound does not hold, at layer 0 for 0 and 1", str(error_of(b"table law 5 0 0 1\n", 3)))
         self.assertEqual(error_of(b"journal version 4\n", 5).number, 4)
         fault = error_of(b"report end-of-text 3 1\n", 3)
         self.assertEqual((fault.fault, fault.line, fault.column), ("end-of-text", 3, 1))
