@@ -14,7 +14,7 @@ import unittest
 
 from support import PATIENCE, PROGRAM, SAMPLES, TEXT, TOP, ProgramCase, RoomCase, bytes_of, needs_program, small_search
 
-from hammockdove import ProgramFailed, Solver
+from hammockdove import PROBLEMS, ProgramFailed, Solver
 from hammockdove.__main__ import main
 
 
@@ -78,6 +78,28 @@ class CommandTests(RoomCase):
         self.assertEqual(said(main, "plot", path)[1], f"{self.room / 'kept.svg'}\n")
         path.write_bytes(bytes_of(small_search(2))[:100])
         self.assertEqual(said(main, "plot", path)[2], f"{path}: journal damaged at byte 75: the file ends inside a record\n")
+
+
+class ReorderTests(RoomCase):
+    def run_tool(self, words, given=None):
+        done = subprocess.run([sys.executable, TOP / "tools/reorder.py", *words], input=given, capture_output=True, text=True, timeout=PATIENCE, check=False)
+        return done.returncode, done.stdout
+
+    def test_values_stay(self):
+        for model, example in (("knapsack", "camping.txt"), ("maxcut", "six-towns.txt"), ("max2sat", "menu.wcnf"), ("qubo", "stalls.txt")):
+            path = TOP / "examples" / model / example
+            old = PROBLEMS[model].from_text(path.read_text())
+            new = PROBLEMS[model].from_text(self.run_tool([model, path])[1])
+            for ones in range(2**new.size):
+                found = [ones >> at & 1 for at in range(new.size)]
+                if ones % 7 == 0 and new.value(found) is not None:
+                    report = f"value {new.value(found)}\n{' '.join(map(str, ('assignment', *found)))}\n"
+                    back = self.run_tool([model, path, "--back"], report)[1].splitlines()
+                    self.assertEqual(old.value([int(it) for it in back[1].split()[1:]]), new.value(found), model)
+
+    def test_wrong_words(self):
+        self.assertEqual(self.run_tool([])[0], 1)
+        self.assertEqual(self.run_tool(["maxcut", self.room / "none"])[0], 1)
 
 
 class ManPageTests(unittest.TestCase):
