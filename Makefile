@@ -1,9 +1,13 @@
+# make             proves and builds the program, where it is not there yet
 # make install     installs the proved program, the client, the man page and the program's identity under PREFIX
+# make uninstall   removes what make install installed under PREFIX
 # make deb         makes a Debian package of the same in build/
-# make test        runs the merge gate: the proofs, the tests and wrong bodies, the examples of the documents and the client's tests
 # make check-deb   installs the package in a Debian 12 of its own and solves there; it needs root, debootstrap and the network
+# make test        runs the merge gate: the proofs, the tests and wrong bodies, the examples of the documents and the client's tests
+# make clean       removes build/
+# make help        prints these lines
 #
-# DESTDIR is put before each path, as packagers want it. PROGRAM names a program that was built elsewhere.
+# PREFIX is /usr/local without it. DESTDIR is put before each path, as packagers want it. PROGRAM names a program that was built elsewhere.
 
 PREFIX ?= /usr/local
 DESTDIR ?=
@@ -18,26 +22,30 @@ MAN := $(DESTDIR)$(PREFIX)/share/man/man1
 DOC := $(DESTDIR)$(PREFIX)/share/doc/hammockdove
 MODULES := $(DESTDIR)$(PYTHONDIR)
 SOURCES := $(shell cd python && find hammockdove -name '*.py' -o -name py.typed)
-DOCUMENTS := $(wildcard README.md docs/FORMATS.md docs/USING.md docs/PYTHON.md docs/FILES.md docs/EDGE.md docs/OWN_PROBLEM.md docs/CLUSTER.md docs/PROVED.md docs/PROMISES.md)
+# Documents, examples and the tools that users run lie as in the checkout, so that links and paths lead somewhere.
+DOCUMENTS := README.md $(wildcard docs/*.md docs/calling/*.md docs/img/*.svg) tools/table.py tools/reorder.py
 
-.PHONY: all program install uninstall deb check-deb test clean
+.PHONY: all program install uninstall deb check-deb test clean help
 
 all: program
 
 # The launcher proves and builds what is not current. It never answers `resume` without proofs, and `resume` without a file has status 4.
 program:
 ifeq ($(PROGRAM),$(BUILT))
-	@./hammockdove resume </dev/null >/dev/null; test $$? -eq 4 || { echo "make: there is no proved program; rt ci builds it" >&2; exit 1; }
+	@./hammockdove resume </dev/null >/dev/null; test $$? -eq 4 || { echo "make: there is no proved program; make PROGRAM=FILE takes one that was built elsewhere" >&2; exit 1; }
 endif
-	@test -x $(PROGRAM) || { echo "make: $(PROGRAM) is no program" >&2; exit 1; }
+	@test -f $(PROGRAM) -a -x $(PROGRAM) || { echo "make: $(PROGRAM) is no program that can be run" >&2; exit 1; }
 
 install: program
 	install -d $(BIN) $(MAN) $(DOC)
+	rm -rf $(DOC)/cluster
 	install -m 755 $(PROGRAM) $(BIN)/hammockdove
 	$(PYTHON) tools/man_page.py docs/USING.md README.md | gzip -9n > $(MAN)/hammockdove.1.gz
-	install -m 644 $(DOCUMENTS) $(DOC)
-	cp -r examples/cluster $(DOC)/
+	cp --parents $(DOCUMENTS) $(DOC)/
+	cp -r examples $(DOC)/
+	ln -s examples/cluster $(DOC)/cluster
 	tools/package/identity $(PROGRAM) > $(DOC)/IDENTITY
+	chmod -R u+w,a+rX $(DOC)
 	@set -e; for file in $(SOURCES); do install -D -m 644 python/$$file $(MODULES)/$$file; done
 	@echo "installed $(BIN)/hammockdove, and the client in $(MODULES); if Python does not look there, add it to PYTHONPATH"
 
@@ -56,3 +64,6 @@ test:
 
 clean:
 	rm -rf build
+
+help:
+	@sed -n '/^#/!q; s/^# \{0,1\}//p' Makefile

@@ -208,6 +208,8 @@ def size_of_all():
 
 
 def main():
+    if len(sys.argv) == 2 and sys.argv[1] != "--write" or len(sys.argv) > 3:
+        sys.exit(__doc__)
     specs = read_specs()
     if sys.argv[1:] == ["--write"]:
         with open(PAGE, "w", encoding="utf-8") as text:

@@ -24,7 +24,7 @@ SYNOPSIS = (
     "digest MODEL",
     "generate MODEL N SEED [--solve]",
 )
-_INLINE = re.compile(r"`([^`]+)`|\*\*(.+?)\*\*|!?\[([^\]]*)\]\([^)]*\)")
+_INLINE = re.compile(r"`([^`]+)`|\*\*(.+?)\*\*|!?\[([^\]]*)\]\([^)]*\)|(?<![\w*])\*(\w[^*]*)\*(?![\w*])")
 _CONTENTS = re.compile(r"[-*] (\[[^\]]*\]\(#[^)]*\)(, )?)+\Z")
 _RULE = re.compile(r"\|[\s:|-]+\|\Z")
 
@@ -35,12 +35,12 @@ def escaped(text: str) -> str:
 
 
 def inline(text: str) -> str:
-    """A paragraph with code and strong words in bold, and links as their words."""
+    """A paragraph with code and strong words in bold, stressed ones in italics, and links as their words."""
     out: list[str] = []
     last = 0
     for found in _INLINE.finditer(text):
-        code, strong, link = found.groups()
-        words = inline(link) if link is not None else rf"\fB{escaped(code or strong)}\fR"
+        code, strong, link, stressed = found.groups()
+        words = inline(link) if link is not None else rf"\fI{escaped(stressed)}\fR" if stressed else rf"\fB{escaped(code or strong)}\fR"
         out += [escaped(text[last : found.start()]), words]
         last = found.end()
     return guarded("".join([*out, escaped(text[last:])]))
@@ -127,11 +127,13 @@ def page(text: str) -> str:
     head = [f'.TH {NAME.upper()} 1', ".SH NAME", rf"{NAME} \- {ABOUT}", ".SH SYNOPSIS"]
     for words in SYNOPSIS:
         head += [rf".B {NAME}", escaped(words), ".br"]
-    files = [".SH SEE ALSO", "The grammars and all printed texts stand in FORMATS.md, in the folder share/doc/hammockdove of the installation."]
+    files = [".SH SEE ALSO", "The grammars and all printed texts stand in docs/FORMATS.md, in the folder share/doc/hammockdove of the installation, which has the examples too."]
     return "\n".join([*head, ".SH DESCRIPTION", *body(text.replace("./hammockdove ", "hammockdove ")), *files]) + "\n"
 
 
 def main() -> int:
+    if len(sys.argv) < 2:
+        sys.exit(__doc__)
     for name in sys.argv[1:]:
         path = Path(name)
         if path.is_file():

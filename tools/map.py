@@ -48,6 +48,8 @@ def with_columns(text, needs):
 
 
 def main():
+    if sys.argv[1:] not in ([], ["--write"]):
+        sys.exit(__doc__)
     with open(PAGE, encoding="utf-8") as page:
         text, changed = with_columns(page.read(), crates())
     if sys.argv[1:] == ["--write"]:

@@ -1,18 +1,18 @@
 #!/usr/bin/env python3
 """Puts an instance into a new order, which makes most searches much shorter: the items of a knapsack by falling profit for each unit of weight, the vertices of
-a cut and the variables of a MAX-2SAT instance by falling weight.
+a cut and the variables of a MAX-2SAT instance or of a quadratic one by falling weight.
 
-    tools/reorder.py MODEL FILE < /dev/null          prints the instance of FILE, renumbered
+    tools/reorder.py MODEL FILE                      prints the instance of FILE, renumbered
     tools/reorder.py MODEL FILE --back < REPORT      prints a report on that, with its assignment in the numbers of FILE
 
-MODEL is knapsack, maxcut or max2sat. The weight of a vertex or a variable is the sum of the sizes of the weights that it has a part in. Nothing of
+MODEL is knapsack, maxcut, max2sat or qubo. The weight of a vertex or a variable is the sum of the sizes of the weights that it has a part in. Nothing of
 this is proved: `digest` and `check` speak of the instance in its new order.
 """
 import sys
 
 
-def read_cut(lines):
-    """The number of vertices, and the edges with their weights."""
+def read_pairs(lines):
+    """The number of vertices or variables, and the edges or lines with their weights."""
     words = [int(word) for word in " ".join(lines).split()]
     return words[0], [(words[at + 2], words[at:at + 2]) for at in range(2, len(words), 3)]
 
@@ -59,8 +59,8 @@ def reordered_items(capacity, items, order):
 def renumbered(model, count, parts, order):
     place = {old: new for new, old in enumerate(order, 1)}
     moved = [(size, [place[abs(m)] * (1 if m > 0 else -1) for m in members]) for size, members in parts]
-    if model == "maxcut":
-        lines = [f"{count} {len(moved)}"] + [f"{a} {b} {size}" for size, (a, b) in moved]
+    if model in ("maxcut", "qubo"):
+        lines = [f"{count} {len(moved)}"] + [f"{min(ms)} {max(ms)} {size}" for size, ms in moved]
     else:
         lines = [f"p wcnf {count} {len(moved)}"] + [f"{size} {' '.join(map(str, ms + [0]))}" for size, ms in moved]
     return "\n".join(lines)
@@ -78,12 +78,17 @@ def put_back(model, order, line):
 
 
 def main():
-    readers = {"knapsack": read_items, "maxcut": read_cut, "max2sat": read_clauses}
+    readers = {"knapsack": read_items, "maxcut": read_pairs, "max2sat": read_clauses, "qubo": read_pairs}
     if len(sys.argv) not in (3, 4) or sys.argv[1] not in readers or sys.argv[3:] not in ([], ["--back"]):
         sys.exit(__doc__)
     model = sys.argv[1]
-    with open(sys.argv[2], encoding="ascii") as file:
-        number, parts = readers[model](file.read().splitlines())
+    try:
+        with open(sys.argv[2], encoding="ascii") as file:
+            number, parts = readers[model](file.read().splitlines())
+    except OSError as fault:
+        sys.exit(f"reorder.py: {sys.argv[2]}: {fault.strerror}")
+    except (ValueError, IndexError):
+        sys.exit(f"reorder.py: {sys.argv[2]} is no instance of {model}; `solve {model}` tells the place of the fault")
     order = order_of_items(parts) if model == "knapsack" else order_of(number, parts)
     if len(sys.argv) == 3:
         print(reordered_items(number, parts, order) if model == "knapsack" else renumbered(model, number, parts, order))

@@ -52,10 +52,18 @@ class TableError(Exception):
 
 
 def load(path):
-    """The module at the path."""
+    """The module at the path, which has all names of a program."""
     spec = importlib.util.spec_from_file_location("program", path)
+    if spec is None:
+        raise TableError(f"{path} is no module: its name has to end in .py")
     module = importlib.util.module_from_spec(spec)
-    spec.loader.exec_module(module)
+    try:
+        spec.loader.exec_module(module)
+    except OSError as fault:
+        raise TableError(f"{path}: {fault.strerror}") from None
+    for name in ("layers", "initial", "decisions", "step", "gain"):
+        if not hasattr(module, name):
+            raise TableError(f"{path} has no {name}")
     return module
 
 
@@ -252,8 +260,8 @@ def text_of(document):
 
 
 def main(words):
-    parser = argparse.ArgumentParser(description="Makes a table from a small dynamic program.")
-    parser.add_argument("program", help="a module with layers, initial, decisions, step and gain")
+    parser = argparse.ArgumentParser(description=__doc__, formatter_class=argparse.RawDescriptionHelpFormatter)
+    parser.add_argument("program", metavar="PROGRAM.py", help="a module with layers, initial, decisions, step and gain")
     parser.add_argument("--states", action="store_true", help="tell the states with their numbers")
     arguments = parser.parse_args(words)
     try:

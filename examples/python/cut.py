@@ -8,10 +8,16 @@ import random
 import sys
 from pathlib import Path
 
-from hammockdove import MaxCut, Progress, Result, Solver
-from hammockdove.plot import plot
+try:
+    from hammockdove import MaxCut, Progress, Result, Solver
+    from hammockdove.plot import plot
+except ModuleNotFoundError:
+    sys.exit("the client is not there: set PYTHONPATH=python in the checkout, or make install")
 
-size, seconds = int(sys.argv[1]) if len(sys.argv) > 1 else 36, float(sys.argv[2]) if len(sys.argv) > 2 else 2.0
+try:
+    size, seconds = int(sys.argv[1]) if len(sys.argv) > 1 else 36, float(sys.argv[2]) if len(sys.argv) > 2 else 2.0
+except ValueError:
+    sys.exit(__doc__)
 draw = random.Random(7)
 roads = [(i, j, draw.randint(1, 20)) for i in range(size) for j in range(i + 1, size) if draw.random() < 0.25]
 try:

@@ -2,6 +2,8 @@
 
 A decision is a sign: 0 opens a round bracket, 1 opens a square one, and 2 closes the last one that is open. A sign has a worth
 at each place. The state is what is open, from the outside in; at most three brackets are open at once.
+
+    python3 tools/table.py examples/table/brackets.py > brackets.json
 """
 
 ROUND = [3, 1, 4, 1, 5, 0, 2, 6, 5, 3]

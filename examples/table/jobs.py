@@ -1,6 +1,8 @@
 """Four jobs on one machine: in which order is the weighted tardiness least?
 
 A decision is the next job. The state is the set of jobs that are done, with the time.
+
+    python3 tools/table.py examples/table/jobs.py > jobs.json
 """
 
 LENGTH = [4, 2, 6, 3]

@@ -2,6 +2,8 @@
 
 A decision is the number of units, 0 to 5. The state is the stock at the beginning of the week. Making any units at all costs
 the set-up, each unit costs its price, and each unit that is kept until the next week costs the storage. Every demand is met.
+
+    python3 tools/table.py examples/table/lots.py > lots.json
 """
 
 DEMAND = [2, 3, 1, 4, 2, 0, 3, 2]

@@ -8,7 +8,7 @@ from collections.abc import Callable, Sequence
 from pathlib import Path
 
 from .answers import Outcome, Result
-from .errors import HammockdoveError
+from .errors import HammockdoveError, NotBegun, ProgramFailed
 from .formats import FORMS, Converted, convert, join_end_depot
 from .plot import plot
 from .show import contents_of, lines_of
@@ -120,14 +120,23 @@ def _parser() -> argparse.ArgumentParser:
 
 
 def main(arguments: Sequence[str] | None = None) -> int:
-    """Runs a command, and returns its status: 3 where something is refused, 2 where a search was stopped."""
+    """Runs a command, and returns its status.
+
+    It is 0 where the command did its work, 2 where a search was stopped or the words are wrong, 3 where something is refused or there is no answer, and
+    130 after Ctrl-C.
+    """
     words = _parser().parse_args(arguments)
     try:
         act: Callable[[argparse.Namespace], int] = words.act
         return act(words)
-    except (HammockdoveError, OSError) as fault:
-        place = f"{words.file}: " if isinstance(fault, HammockdoveError) else ""
-        print(f"{place}{fault}", file=sys.stderr)
+    except (NotBegun, ProgramFailed) as fault:
+        print(fault, file=sys.stderr)
+        return _REFUSED
+    except HammockdoveError as fault:
+        print(f"{words.file}: {fault}", file=sys.stderr)
+        return _REFUSED
+    except OSError as fault:
+        print(f"{fault.filename or words.file}: {fault.strerror}", file=sys.stderr)
         return _REFUSED
     except KeyboardInterrupt:
         return _INTERRUPTED

@@ -22,7 +22,12 @@ from .errors import (
 from .journal import Part
 
 NOTHING_SOLVED = 69
-_NOT_KNOWN = "this program does not know the problem"
+_NOT_KNOWN = "this program does not know the problem, or draws no instance of it"
+_FAULTS = {
+    "read fault": "its input could not be read",
+    "disk fault": "the journal's file could not be opened or read, or another program works on it",
+    "out of memory": "memory did not suffice",
+}
 _EXCERPT = 60
 _REPORT = frozenset({"value", "assignment", "bound", "taken", "finished"})
 
@@ -235,7 +240,7 @@ def error_of(text: bytes, status: int, given: bytes = b"") -> HammockdoveError:
     if answer == "input too-long":
         return InputTooLong(answer, status, "the input is longer than what the program reads")
     if answer == "part too-long":
-        return InputTooLong(answer, status, "a record of the part is longer than what a journal holds")
+        return InputTooLong(answer, status, "a record of the part is longer than what a journal holds; more parts are smaller")
     if words[0] == "instance" and len(words) == 4:
         line, column = int(words[2]), int(words[3])
         return InstanceRefused(answer, status, words[1], line, column, _excerpt(given, line))
@@ -250,15 +255,15 @@ def error_of(text: bytes, status: int, given: bytes = b"") -> HammockdoveError:
     if answer == "words model":
         return UnknownProblem(answer, status, _NOT_KNOWN)
     if words[0] == "words":
-        about = "the options are not ones that the program takes together" if answer == "words usage" else f"a bad value of {words[-1]}"
+        is_bad_value = answer != "words usage"
+        about = f"a bad value of {words[-1]}, whose range docs/FORMATS.md tells" if is_bad_value else "the program does not take these options together"
         return WordsRefused(answer, status, f"words refused: {about}")
     if words[0] == "table":
         return TableRefused(answer, status, words[1], tuple(map(int, words[2:])))
     if answer == "width":
-        return WordsRefused(answer, status, "the width is above the greatest one of this instance")
-    if answer in ("read fault", "disk fault", "out of memory"):
-        locked = ", or another program works on the journal" if answer == "disk fault" else ""
-        return ProgramFailed(f"the program ended with {answer}{locked}", status)
+        return WordsRefused(answer, status, "the width is above the greatest one of this instance: give a lesser one, or none")
+    if answer in _FAULTS:
+        return ProgramFailed(f"the program ended with {answer}: {_FAULTS[answer]}", status)
     return Unreadable(f"the program printed {answer!r} with status {status}")
 
 

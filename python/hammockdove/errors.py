@@ -50,7 +50,26 @@ class TableRefused(Refused):
 
     def __init__(self, answer: str, status: int, fault: str, numbers: tuple[int, ...]) -> None:
         self.fault, self.numbers = fault, numbers
-        super().__init__(answer, status, f"table refused: {' '.join((fault, *map(str, numbers)))}")
+        super().__init__(answer, status, f"table refused, {' '.join((fault, *map(str, numbers)))}: {_of_table(fault, numbers)}")
+
+
+_LAWS = {
+    2: "a gap does not hold",
+    3: "the gap of a state to itself is not 0",
+    4: "a merge has no gap to what it stands for",
+    5: "a rough bound does not hold",
+    7: "gaps do not add up",
+}
+
+
+def _of_table(fault: str, numbers: tuple[int, ...]) -> str:
+    """What is wrong with a table, in words."""
+    if fault == "json":
+        return "the document is no JSON"
+    if fault == "shape" or len(numbers) != 4:
+        return f"layer {numbers[0]} has not the form of a layer" if numbers else "the document has not the form of a table"
+    law, layer, first, second = numbers
+    return f"{_LAWS.get(law, 'a law does not hold')}, at layer {layer} for {first} and {second}"
 
 
 class CoverRefused(Refused):
@@ -69,6 +88,22 @@ class ReportRefused(Refused):
         super().__init__(answer, status, f"no report of a settled part, {fault} at line {line}, column {column}")
 
 
+_OF_REPORTS = {
+    "order": ": there must be one of each part, in order",
+    "journal": ": it is of another journal than the one that is given, which must be as it was when it was split",
+    "distance": ": it is within another distance than the journal",
+    "value": ": its assignment does not have its value, so search that part again",
+}
+_OF_JOURNALS = {
+    "exists": ": resume goes on with the search that is there; a new search needs another file",
+    "not-begun": ": its search had not begun, and solve begins it",
+    "version": ": this program reads the versions 1 and 2",
+    "damaged": ": something other than a crash changed it; hammockdove.show tells what stands before",
+    "malformed": ": something other than a crash changed it; hammockdove.show tells what stands before",
+    "no-solution": ": another program wrote it, since no solution of the instance stands there",
+}
+
+
 class ReportsRefused(Refused):
     """The reports are not those of all parts of the journal, in order, or one tells a solution that is none.
 
@@ -79,7 +114,8 @@ class ReportsRefused(Refused):
 
     def __init__(self, answer: str, status: int, cause: str, index: int) -> None:
         self.cause, self.index = cause, index
-        super().__init__(answer, status, f"reports of parts refused, {cause} at part {index}")
+        about = _OF_REPORTS.get(cause, "")
+        super().__init__(answer, status, f"reports of parts refused, {cause} at part {index}{about}")
 
 
 class InputTooLong(Refused):
@@ -104,7 +140,7 @@ class JournalRefused(Refused):
     def __init__(self, answer: str, status: int, cause: str, number: int | None) -> None:
         self.cause, self.number = cause, number
         where = "" if number is None else f" {number}" if cause == "version" else f" at byte {number}"
-        super().__init__(answer, status, f"journal refused, {cause}{where}")
+        super().__init__(answer, status, f"journal refused, {cause}{where}{_OF_JOURNALS.get(cause, '')}")
 
 
 class ProgramFailed(HammockdoveError):

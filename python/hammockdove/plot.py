@@ -24,10 +24,12 @@ class Series:
 
     @property
     def finished(self) -> list[int]:
+        """How many subproblems were finished at each point."""
         return [it.finished for it in self.points]
 
     @property
     def title(self) -> str:
+        """What stands above the picture."""
         last = self.points[-1]
         return f"{self.model}: {last.finished:,} subproblems finished, {last.improvements:,} better solutions"
 

@@ -250,7 +250,10 @@ class Solver:
         with tempfile.TemporaryFile() as source:
             source.write(given)
             source.seek(0)
-            done = subprocess.run([self.program, *words], stdin=source, stdout=subprocess.PIPE, check=False)
+            try:
+                done = subprocess.run([self.program, *words], stdin=source, stdout=subprocess.PIPE, check=False)
+            except OSError as fault:
+                raise _not_started(self.program, fault) from None
         return done.stdout, done.returncode
 
     def _search(
@@ -341,13 +344,17 @@ class _running:
         try:
             self.child = subprocess.Popen(words, stdin=source, stdout=sink, start_new_session=True)
         except OSError as fault:
-            raise ProgramFailed(f"{words[0]} does not start: {fault.strerror}", 0) from None
+            raise _not_started(words[0], fault) from None
 
     def __enter__(self) -> subprocess.Popen[bytes]:
         return self.child
 
     def __exit__(self, *_: object) -> None:
         _kill(self.child)
+
+
+def _not_started(program: str, fault: OSError) -> ProgramFailed:
+    return ProgramFailed(f"{program} does not start: {fault.strerror}; ${PROGRAM} names the program, where it is set", 0)
 
 
 def _wait(child: subprocess.Popen[bytes], began: float, timeout: float | None, watcher: _Watcher | None) -> bool:
@@ -419,7 +426,7 @@ def _remove(path: Path | None) -> None:
 def _require(journal: str | Path) -> None:
     """Refuses a file that is not there: the program would make an empty one."""
     if not Path(journal).exists():
-        raise NotBegun(f"{journal} is not there")
+        raise NotBegun(f"{journal} is not there: a search makes it with journal=")
 
 
 def _head_of(path: str | Path) -> Head | None:
@@ -459,7 +466,10 @@ def _distance_of(path: Path) -> int:
 
 
 def find_program() -> str:
-    """The program that $HAMMOCKDOVE names, or the one on the path, or the one that this checkout built, or its launcher."""
+    """The program that $HAMMOCKDOVE names, or the one on the path, or the one that this checkout built, or its launcher.
+
+    Raises `ProgramFailed` where there is none.
+    """
     named = os.environ.get(PROGRAM) or shutil.which("hammockdove")
     if named:
         return named
@@ -467,4 +477,4 @@ def find_program() -> str:
     for path in (top / "crates/solver_cli/out/solver_cli", top / "hammockdove"):
         if os.access(path, os.X_OK) and path.is_file():
             return str(path)
-    raise HammockdoveError(f"no program hammockdove: it is not on the path, and ${PROGRAM} names none")
+    raise ProgramFailed(f"no program hammockdove: it is not on the path, and ${PROGRAM} names none; `make install` puts it on the path", 0)

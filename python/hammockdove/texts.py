@@ -62,6 +62,7 @@ class Line:
 
     @property
     def first(self) -> Token:
+        """The first token of the line."""
         return self.tokens[0]
 
     def require(self, count: int, what: str) -> None:

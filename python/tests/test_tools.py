@@ -14,6 +14,7 @@ import unittest
 
 from support import PATIENCE, PROGRAM, SAMPLES, TEXT, TOP, ProgramCase, RoomCase, bytes_of, needs_program, small_search
 
+from hammockdove import PROBLEMS, ProgramFailed, Solver
 from hammockdove.__main__ import main
 
 
@@ -49,6 +50,11 @@ class CommandTests(RoomCase):
         self.assertEqual(err, f"{path}: line 1, column 7: MAX-2SAT has at most two literals in a clause, found '3'\n")
         self.assertEqual(said(main, "convert", "wcnf", self.room / "none")[0], 3)
 
+    def test_no_program(self):
+        solver = Solver("/nowhere/hammockdove")
+        for call in (lambda: solver.knows("knapsack"), lambda: solver.solve(("knapsack", "0 1\n"), journal=False)):
+            self.assertRaisesRegex(ProgramFailed, "does not start: No such file or directory; .HAMMOCKDOVE names the program", call)
+
     def test_show(self):
         path = self.room / "kept.journal"
         path.write_bytes(bytes_of(small_search(2)))
@@ -60,7 +66,9 @@ class CommandTests(RoomCase):
         path.write_bytes(bytes_of(small_search(2))[:150])
         status, out, err = said(main, "show", path)
         self.assertEqual((status, out.splitlines()[-1], err), (3, "end 137", f"{path}: journal damaged at byte 137: the file ends inside a record\n"))
-        self.assertEqual(said(main, "show", self.room / "none")[0], 3)
+        self.assertEqual(said(main, "show", self.room / "none")[::2], (3, f"{self.room / 'none'}: No such file or directory\n"))
+        path.write_bytes(b"no journal")
+        self.assertEqual(said(main, "show", path)[2], f"{path} holds no journal yet: it has at most one byte, or its first gate is closed\n")
 
     def test_watch_and_plot(self):
         path = self.room / "kept.journal"
@@ -72,15 +80,37 @@ class CommandTests(RoomCase):
         self.assertEqual(said(main, "plot", path)[2], f"{path}: journal damaged at byte 75: the file ends inside a record\n")
 
 
+class ReorderTests(RoomCase):
+    def run_tool(self, words, given=None):
+        done = subprocess.run([sys.executable, TOP / "tools/reorder.py", *words], input=given, capture_output=True, text=True, timeout=PATIENCE, check=False)
+        return done.returncode, done.stdout
+
+    def test_values_stay(self):
+        for model, example in (("knapsack", "camping.txt"), ("maxcut", "six-towns.txt"), ("max2sat", "menu.wcnf"), ("qubo", "stalls.txt")):
+            path = TOP / "examples" / model / example
+            old = PROBLEMS[model].from_text(path.read_text())
+            new = PROBLEMS[model].from_text(self.run_tool([model, path])[1])
+            for ones in (6, 10):
+                found = [ones >> at & 1 for at in range(new.size)]
+                if new.value(found) is not None:
+                    report = f"value {new.value(found)}\n{' '.join(map(str, ('assignment', *found)))}\n"
+                    back = self.run_tool([model, path, "--back"], report)[1].splitlines()
+                    self.assertEqual(old.value([int(it) for it in back[1].split()[1:]]), new.value(found), model)
+
+    def test_wrong_words(self):
+        self.assertEqual(self.run_tool([])[0], 1)
+        self.assertEqual(self.run_tool(["maxcut", self.room / "none"])[0], 1)
+
+
 class ManPageTests(unittest.TestCase):
     def test_page(self):
         page = load(TOP / "tools/man_page.py").page(
-            "# Title\n\nFirst `--width N` words, **strong**, [a link](X.md).\n\n- [One](#one), [two](#two)\n\n## A part\n\n"
+            "# Title\n\nFirst `--width N` words, **strong**, *stressed*, 2 * 3 * 4, [a link](X.md).\n\n- [One](#one), [two](#two)\n\n## A part\n\n"
             "```\n$ ./hammockdove check\n.dot\n```\n\n| Option | What it does | Without it |\n|---|---|---|\n| `--width N` | a \\| b | 100 |\n\n"
             "- one\n  more\n- two\n<!-- left out -->\n"
         )
         for line in (
-            r"First \fB\-\-width N\fR words, \fBstrong\fR, a link.",
+            r"First \fB\-\-width N\fR words, \fBstrong\fR, \fIstressed\fR, 2 * 3 * 4, a link.",
             '.SH "A PART"',
             "$ hammockdove check",
             r"\&.dot",

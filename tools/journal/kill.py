@@ -18,6 +18,8 @@ def count(tool, name):
 
 
 def main():
+    if len(sys.argv) != 4:
+        sys.exit(__doc__)
     tool, times, seed = sys.argv[1].split(), int(sys.argv[2]), int(sys.argv[3])
     draw = random.Random(seed)
     wrong = kept = 0

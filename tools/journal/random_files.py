@@ -82,6 +82,8 @@ def file(draw):
 
 
 def main():
+    if len(sys.argv) != 5:
+        sys.exit(__doc__)
     tool, times, seed = sys.argv[1].split(), int(sys.argv[3]), int(sys.argv[4])
     spec = importlib.util.spec_from_file_location("reader", sys.argv[2])
     reader = importlib.util.module_from_spec(spec)

@@ -85,6 +85,8 @@ class Runs:
 
 
 def main():
+    if len(sys.argv) != 2 or not os.access(sys.argv[1], os.X_OK):
+        sys.exit(__doc__)
     program = os.path.abspath(sys.argv[1])
     bad = 0
     with tempfile.TemporaryDirectory() as folder:

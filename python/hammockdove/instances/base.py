@@ -66,7 +66,20 @@ def whole(number: Any, what: str) -> int:
 
 def wholes(numbers: Iterable[Any], what: str) -> tuple[int, ...]:
     """Whole numbers of a list or an array; a refusal names the one at fault, from 0."""
+    if isinstance(numbers, str) or not hasattr(numbers, "__iter__"):
+        raise InvalidInstance(f"{what} must be a list of whole numbers, not {numbers!r}")
     return tuple(whole(number, f"{what}[{at}]") for at, number in enumerate(numbers))
+
+
+def row(found: Any, counts: Sequence[int], what: str, needs: str) -> tuple[Any, ...]:
+    """The members of a list, a tuple or a row of an array, of which there must be one of these numbers; a refusal says what is needed."""
+    try:
+        members = None if isinstance(found, str) else tuple(found)
+    except TypeError:
+        members = None
+    if members is None or len(members) not in counts:
+        raise InvalidInstance(f"{what} must be {needs}, not {found!r}")
+    return members
 
 
 def are_choices(assignment: Sequence[int], size: int, choices: int) -> bool:

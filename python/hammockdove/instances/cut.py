@@ -8,7 +8,7 @@ from typing import Any, ClassVar, Self
 
 from ..errors import InvalidInstance
 from ..texts import Token, Tokens, lines_of
-from .base import Instance, are_choices, whole
+from .base import Instance, are_choices, row, whole
 
 
 @dataclass(frozen=True)
@@ -28,9 +28,7 @@ class MaxCut(Instance):
         vertices = whole(self.vertices, "vertices")
         edges = []
         for at, edge in enumerate(self.edges):
-            if len(edge) != 3:
-                raise InvalidInstance(f"edges[{at}] must be two vertices and a weight, not {edge!r}")
-            i, j, weight = (whole(it, f"edges[{at}]") for it in edge)
+            i, j, weight = (whole(it, f"edges[{at}]") for it in row(edge, (3,), f"edges[{at}]", "two vertices and a weight"))
             if not (0 <= i < vertices and 0 <= j < vertices):
                 raise InvalidInstance(f"edges[{at}] joins {i} and {j}, and the vertices are 0 to {vertices - 1}")
             edges.append((i, j, weight))
@@ -52,7 +50,7 @@ class MaxCut(Instance):
     def from_matrix(cls, matrix: Any) -> Self:
         """Of a symmetric matrix of weights, of lists or numpy; its diagonal counts nothing."""
         count = len(matrix)
-        if any(len(row) != count for row in matrix):
+        if any(len(weights) != count for weights in matrix):
             raise InvalidInstance("the matrix is not square")
         for i in range(count):
             for j in range(i):
@@ -65,8 +63,8 @@ class MaxCut(Instance):
         return self.vertices
 
     def text(self) -> str:
-        rows = (f"{i + 1} {j + 1} {weight}" for i, j, weight in self.edges)
-        return "".join(f"{row}\n" for row in (f"{self.vertices} {len(self.edges)}", *rows))
+        lines = (f"{i + 1} {j + 1} {weight}" for i, j, weight in self.edges)
+        return "".join(f"{line}\n" for line in (f"{self.vertices} {len(self.edges)}", *lines))
 
     @classmethod
     def from_text(cls, text: str) -> Self:

@@ -8,7 +8,7 @@ from typing import Any, ClassVar, Self
 
 from ..errors import InvalidInstance
 from ..texts import Tokens, lines_of
-from .base import Instance, whole, wholes
+from .base import Instance, row, whole, wholes
 
 
 @dataclass(frozen=True)
@@ -35,11 +35,8 @@ class Knapsack(Instance):
     @classmethod
     def from_items(cls, capacity: int, items: Iterable[Sequence[Any]]) -> Self:
         """Of rows `profit, weight` or `profit, weight, copies`."""
-        rows = [tuple(item) for item in items]
-        for at, row in enumerate(rows):
-            if len(row) not in (2, 3):
-                raise InvalidInstance(f"items[{at}] must be a profit, a weight and perhaps copies, not {row!r}")
-        return cls(capacity, [row[0] for row in rows], [row[1] for row in rows], [row[2] if len(row) > 2 else 1 for row in rows])
+        rows = [row(item, (2, 3), f"items[{at}]", "a profit, a weight and perhaps copies") for at, item in enumerate(items)]
+        return cls(capacity, [it[0] for it in rows], [it[1] for it in rows], [it[2] if len(it) > 2 else 1 for it in rows])
 
     @property
     def items(self) -> list[tuple[int, int, int]]:
@@ -51,8 +48,8 @@ class Knapsack(Instance):
         return len(self.profits)
 
     def text(self) -> str:
-        rows = (f"{profit} {weight}" + (f" {copies}" if copies != 1 else "") for profit, weight, copies in self.items)
-        return "".join(f"{row}\n" for row in (f"{self.size} {self.capacity}", *rows))
+        lines = (f"{profit} {weight}" + (f" {copies}" if copies != 1 else "") for profit, weight, copies in self.items)
+        return "".join(f"{line}\n" for line in (f"{self.size} {self.capacity}", *lines))
 
     @classmethod
     def from_text(cls, text: str) -> Self:

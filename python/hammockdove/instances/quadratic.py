@@ -8,7 +8,7 @@ from typing import Any, ClassVar, Self
 
 from ..errors import InvalidInstance
 from ..texts import Tokens, lines_of
-from .base import Instance, are_choices, whole
+from .base import Instance, are_choices, row, whole
 
 
 @dataclass(frozen=True)
@@ -26,9 +26,7 @@ class Qubo(Instance):
         variables = whole(self.variables, "variables")
         lines = []
         for at, line in enumerate(self.lines):
-            if len(line) != 3:
-                raise InvalidInstance(f"lines[{at}] must be two variables and a weight, not {line!r}")
-            i, j, weight = (whole(it, f"lines[{at}]") for it in line)
+            i, j, weight = (whole(it, f"lines[{at}]") for it in row(line, (3,), f"lines[{at}]", "two variables and a weight"))
             if not 0 <= i <= j < variables:
                 raise InvalidInstance(f"lines[{at}] has the variables {i} and {j}, which must be in order and among 0 to {variables - 1}")
             lines.append((i, j, weight))
@@ -39,7 +37,7 @@ class Qubo(Instance):
     def from_matrix(cls, matrix: Any) -> Self:
         """Of a square matrix, of lists or numpy: the two weights of each pair are added."""
         count = len(matrix)
-        if any(len(row) != count for row in matrix):
+        if any(len(weights) != count for weights in matrix):
             raise InvalidInstance("the matrix is not square")
         sums = ((i, j, matrix[i][j] + (matrix[j][i] if i < j else 0)) for i in range(count) for j in range(i, count))
         return cls(count, [line for line in sums if line[2] != 0])
@@ -55,8 +53,8 @@ class Qubo(Instance):
         return self.variables
 
     def text(self) -> str:
-        rows = (f"{i + 1} {j + 1} {weight}" for i, j, weight in self.lines)
-        return "".join(f"{row}\n" for row in (f"{self.variables} {len(self.lines)}", *rows))
+        lines = (f"{i + 1} {j + 1} {weight}" for i, j, weight in self.lines)
+        return "".join(f"{line}\n" for line in (f"{self.variables} {len(self.lines)}", *lines))
 
     @classmethod
     def from_text(cls, text: str) -> Self:

@@ -8,7 +8,7 @@ from typing import ClassVar, Self
 
 from ..errors import InvalidInstance
 from ..texts import Token, Tokens, lines_of, starts_with
-from .base import Instance, are_choices, whole, wholes
+from .base import Instance, are_choices, row, whole, wholes
 
 Clause = tuple[int, tuple[int, ...]]
 
@@ -27,10 +27,11 @@ class Max2Sat(Instance):
     def __post_init__(self) -> None:
         variables = whole(self.variables, "variables")
         clauses: list[Clause] = []
-        for at, (weight, literals) in enumerate(self.clauses):
-            found = wholes(literals, f"clauses[{at}]")
-            if len(found) > 2 or any(not 1 <= abs(it) <= variables for it in found):
-                raise InvalidInstance(f"clauses[{at}] must have at most two literals of the variables 1 to {variables}, not {found!r}")
+        for at, clause in enumerate(self.clauses):
+            weight, literals = row(clause, (2,), f"clauses[{at}]", "a weight and a list of literals")
+            found = wholes(row(literals, (0, 1, 2), f"the literals of clauses[{at}]", "a list of at most two"), f"clauses[{at}]")
+            if any(not 1 <= abs(it) <= variables for it in found):
+                raise InvalidInstance(f"clauses[{at}] must have literals of the variables 1 to {variables}, not {found!r}")
             clauses.append((whole(weight, f"the weight of clauses[{at}]"), found))
         object.__setattr__(self, "variables", variables)
         object.__setattr__(self, "clauses", tuple(clauses))
@@ -38,9 +39,9 @@ class Max2Sat(Instance):
     @classmethod
     def from_clauses(cls, clauses: Iterable[Sequence[int]], variables: int | None = None) -> Self:
         """Of clauses of weight 1. Without `variables` there are as many as the greatest one that stands in a clause."""
-        rows = [tuple(clause) for clause in clauses]
-        count = max((abs(it) for row in rows for it in row), default=0) if variables is None else variables
-        return cls(count, [(1, row) for row in rows])
+        found = [row(clause, (0, 1, 2), f"clauses[{at}]", "a list of at most two literals") for at, clause in enumerate(clauses)]
+        count = max((abs(it) for literals in found for it in literals), default=0) if variables is None else variables
+        return cls(count, [(1, literals) for literals in found])
 
     @property
     def size(self) -> int:
@@ -52,8 +53,8 @@ class Max2Sat(Instance):
         return sum(weight for weight, _ in self.clauses)
 
     def text(self) -> str:
-        rows = (" ".join(map(str, (weight, *literals, 0))) for weight, literals in self.clauses)
-        return "".join(f"{row}\n" for row in (f"p wcnf {self.variables} {len(self.clauses)}", *rows))
+        lines = (" ".join(map(str, (weight, *literals, 0))) for weight, literals in self.clauses)
+        return "".join(f"{line}\n" for line in (f"p wcnf {self.variables} {len(self.clauses)}", *lines))
 
     @classmethod
     def from_text(cls, text: str) -> Self:

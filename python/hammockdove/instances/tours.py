@@ -8,7 +8,7 @@ from typing import Any, ClassVar, Self
 
 from ..errors import InvalidInstance
 from ..texts import Tokens, lines_of, starts_with
-from .base import Instance, whole, wholes
+from .base import Instance, row, whole, wholes
 
 
 @dataclass(frozen=True)
@@ -23,12 +23,13 @@ class Tsptw(Instance):
     windows: Sequence[tuple[int, int]]
 
     def __post_init__(self) -> None:
-        distances = tuple(wholes(row, f"distances[{at}]") for at, row in enumerate(self.distances))
-        if not distances or any(len(row) != len(distances) for row in distances):
+        distances = tuple(wholes(ways, f"distances[{at}]") for at, ways in enumerate(self.distances))
+        if not distances or any(len(ways) != len(distances) for ways in distances):
             raise InvalidInstance("the distances must be a square matrix of at least one row")
-        if len(self.windows) != len(distances) or any(len(window) != 2 for window in self.windows):
-            raise InvalidInstance(f"there must be an opening and a closing for each of the {len(distances)} nodes")
-        windows = tuple((whole(it[0], f"windows[{at}]"), whole(it[1], f"windows[{at}]")) for at, it in enumerate(self.windows))
+        if len(self.windows) != len(distances):
+            raise InvalidInstance(f"there must be an opening and a closing for each of the {len(distances)} nodes, not {len(self.windows)}")
+        rows = (row(window, (2,), f"windows[{at}]", "an opening and a closing") for at, window in enumerate(self.windows))
+        windows = tuple((whole(it[0], f"windows[{at}]"), whole(it[1], f"windows[{at}]")) for at, it in enumerate(rows))
         object.__setattr__(self, "distances", distances)
         object.__setattr__(self, "windows", windows)
 
@@ -48,8 +49,8 @@ class Tsptw(Instance):
         return len(self.distances)
 
     def text(self) -> str:
-        rows = [*self.distances, *self.windows]
-        return "".join(f"{row}\n" for row in (self.size, *(" ".join(map(str, row)) for row in rows)))
+        lines = (" ".join(map(str, numbers)) for numbers in (*self.distances, *self.windows))
+        return "".join(f"{line}\n" for line in (self.size, *lines))
 
     @classmethod
     def from_text(cls, text: str) -> Self:
