@@ -1,4 +1,4 @@
-//! Branch and bound search by decision diagrams: rounds on a board that one owns, and workers behind a turn.
+//! Branch and bound search by decision diagrams: rounds on a board that one owns, and workers under a turn.
 //!
 //! In a round, a subproblem is taken and its restricted diagram is compiled with the reach as threshold, which is the incumbent's
 //! value and the distance of the settings; the beam is offered as a solution. Where the width took nothing from that diagram, no
@@ -11,7 +11,7 @@
 //! The crate has two parts, and a `Desk` is what a round needs in either:
 //!
 //! - `rounds`, on a board that one owns, for worker 0: `explore` does rounds until the search ends.
-//! - `workers`, behind a turn, each with a seat and a desk of its own: `work` is a worker's rounds, `fan_out` the workers side by
+//! - `workers`, under a turn, each with a seat and a desk of its own: `work` is a worker's rounds, `fan_out` the workers side by
 //!   side, and `explore_together` a whole search, which ends with `explore` on the closed board.
 //!
 //! ```

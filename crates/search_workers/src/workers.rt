@@ -1,4 +1,4 @@
-//! Workers over one board behind a turn, each with a seat and a desk of its own.
+//! Workers over one board under a turn, each with a seat and a desk of its own.
 //!
 //! Each function of the `holding` modules holds the turn once, makes one move, and leaves; its contract says what the seat knows
 //! then. What it does with the board meanwhile stands in `moving`. What a worker proves against the reach by what its seat has

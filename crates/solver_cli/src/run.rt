@@ -24,8 +24,9 @@ pub struct Ended<D> {
 ///
 /// `words` leave out the program's name. A search takes these steps in order: words, input, instance, width, attaching, journal, search,
 /// report, cover. A search that goes on from a journal takes these: words, attaching, reopening, instance, width, replay, search, report.
-/// With `--incumbent` the input is read after the words, and the solutions of its reports are tested and offered after the replay. The first
-/// step that fails decides the answer. The disk is touched only if a journal is asked for. Each worker passes the gate after each of its
+/// With `--incumbent` the input is read after the words, and the solutions of its reports are tested and offered after the replay. `split`
+/// and `join --journal` read the journal as `resume` does, the latter after its input. The first step that fails decides the answer. The
+/// disk is touched only if a journal is asked for. Each worker passes the gate after each of its
 /// steps. `run` may wait: for its workers, and they for one another.
 ///
 /// | Status | Meaning |
@@ -39,7 +40,7 @@ pub struct Ended<D> {
 /// | 6 | the input failed |
 /// | 7 | the output failed; this goes before every other status but 6 |
 /// | 8 | no memory before the search or in printing |
-/// | 9 | refused cover |
+/// | 9 | refused cover, or a reported solution that does not have its value |
 /// | 10 | the disk failed before the search |
 pub fn run<S: Source, K: Sink, D: Disk + Send, G: Gate + Sync, R: Threads + Wait + Sync>(
     rt: &R,

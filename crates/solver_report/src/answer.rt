@@ -146,7 +146,7 @@ pub enum PartOutcome {
     Stopped(Stop, Option<Solution>, i64),
 }
 
-/// Why the reports of the parts of a search are not joined. `index` is the place of a report, from 0.
+/// Why the reports of the parts of a search are not joined, or their solutions not offered. `index` is the place of a report, from 0.
 #[derive(Clone, Copy, Debug, PartialEq, Eq)]
 pub enum ReportRefusal {
     /// The report at this place is not that of the part that belongs there, of as many parts as there are reports.
@@ -188,9 +188,9 @@ pub enum Answer {
     },
     /// The input spells no reports of parts.
     ReportRefused(InstanceError),
-    /// The reports in the input are not joined, for this reason.
+    /// The reports in the input are not joined, or their solutions not offered, for this reason.
     ReportsRefused(ReportRefusal),
-    /// The part has more bytes than a part may have.
+    /// The head or the Snapshot of the part has 2^32 bytes or more, which no record can have.
     PartTooLarge,
     /// The input is longer than the limit.
     TooLong,

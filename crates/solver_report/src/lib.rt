@@ -1,7 +1,8 @@
 //! The answers of the program, and the text and exit status of each answer.
 //!
-//! It stands on `dp_model` for solutions, on `bound_cover` for verdicts, on `tokens` for numbers and faults of texts, on `solver_words` for
-//! why words are refused, on `journal_file` for why journals are, and on the crate `hex`.
+//! It stands on `dp_model` for solutions, on `bound_cover` for verdicts, on `tokens` for numbers and faults of texts, on `problem_theory` and
+//! `table_refusal` for why instances are refused, on `solver_words` for why words are, on `journal_file` for why journals are, and on the
+//! crates `hex` and `itoa`.
 //! `report_text` gives exactly the text of an answer, and `status` its exit status. `specs/Report.antt` defines both.
 //!
 //! ```

@@ -178,12 +178,12 @@ abbrev pub model_of : Option Text → Result ModelName Refusal
 model_of None = Err model
 model_of (Some word) = or_model (model_named word)
 
--- how many words a cover may have, where one is wanted
+-- how many words the books of a cover may have together, where one is wanted
 abbrev pub cover_of : Bool → Option ℕ → Option ℕ
 cover_of false words = None
 cover_of true words = Some (or_default DEFAULT_COVER_WORDS words)
 
--- the settings with a distance, which is 0 where none is given, and a cover of this many words
+-- the settings with a distance, which is 0 where none is given, and this many words for the books of a cover
 abbrev pub extended : JobSettings → Option ℕ → Option ℕ → JobSettings
 extended settings within words = record settings { within = pos (or_default 0 within); cover_words = words }
 

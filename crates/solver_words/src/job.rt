@@ -16,8 +16,8 @@ pub struct JobSettings {
     pub stats: bool,
     /// The distance: how far the best value may be above the value of the answer, from 0 to 2^50.
     pub within: i64,
-    /// `Some` if a cover is to follow the report of a search that went to its end, with the number of words that it may have. `None` if
-    /// no cover is asked for.
+    /// `Some` if a cover is to follow the report of a search that went to its end, with the number of words that the books
+    /// may have from which it is made. `None` if no cover is asked for.
     pub cover_words: Option<u64>,
     /// In how many parts a worker makes a layer of a relaxed diagram, from 1 to 64.
     pub parts: u32,

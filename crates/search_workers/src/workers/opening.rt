@@ -1,4 +1,4 @@
-//! How a board comes behind a turn, and back.
+//! How a board comes under a turn, and back.
 
 ghost use Rattle.std.specs.Prelude.{◌≡◌, [], map, IfOk, IfErr};
 ghost use Rattle.std.specs.List.{All, range_with_len};
@@ -17,7 +17,7 @@ use kept_board::Kept;
 use std::alloc::Global;
 use turn::{NoTurn, Seat, Turn};
 
-/// Puts a board with nothing out behind a turn, with a seat for each worker of its settings. Fails only for want of memory, and then
+/// Puts a board with nothing out under a turn, with a seat for each worker of its settings. Fails only for want of memory, and then
 /// the board comes back as it was.
 pub fn open<M: DpModel, D: Disk + Send>(
     alloc: Global,

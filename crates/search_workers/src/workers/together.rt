@@ -126,7 +126,7 @@ pub fn explore_together<M: DpModel, D: Disk + Send, G: Gate + Sync, R: Threads +
     }
 }
 
-/// The workers side by side on a board that comes behind a turn and back.
+/// The workers side by side on a board that comes under a turn and back.
 fn work_together<M: DpModel, D: Disk + Send, G: Gate + Sync, R: Threads + Wait + Sync>(
     rt: &R,
     alloc: Global,
