@@ -175,6 +175,7 @@ module _ {D : Type 0} (on : Ghosts D) (dp : Dp) (laws : IsLawful dp) where
     faults = k.faults;
     still_tells = k.still_tells;
     same_names = k.same_names;
+    same_found = k.same_found;
     start = k.start;
     state = ⊎_elim
         (λ goes. inl (record { cause = goes-on dp b step alone goes.cause; is_attached = goes.is_attached; current = λ tells. stays-current b step made disk tail may is (goes.current tells) }))
@@ -237,6 +238,7 @@ module _ {D : Type 0} (on : Ghosts D) (dp : Dp) (laws : IsLawful dp) where
           faults = omega (arith, k.faults, faults);
           still_tells = keeps.still_tells ∙ k.still_tells;
           same_names = keeps.same_names ∙ k.same_names;
+          same_found = keeps.same_found ∙ k.same_found;
           start = λ s is. start s (k.start s is);
           state = inl (record {
             cause = grows.going goes.cause;
@@ -254,6 +256,7 @@ module _ {D : Type 0} (on : Ghosts D) (dp : Dp) (laws : IsLawful dp) where
           faults = omega (arith, k.faults, faults);
           still_tells = keeps.still_tells ∙ k.still_tells;
           same_names = keeps.same_names ∙ k.same_names;
+          same_found = keeps.same_found ∙ k.same_found;
           start = λ s is. start s (k.start s is);
           state = inr (record {
             cause = refl;
@@ -270,6 +273,7 @@ module _ {D : Type 0} (on : Ghosts D) (dp : Dp) (laws : IsLawful dp) where
     faults = omega arith;
     still_tells = refl;
     same_names = refl;
+    same_found = refl;
     start = λ s is. is;
     state = inl (record {
       cause = λ is. cc;

@@ -82,6 +82,7 @@ module _ {D : Type 0} (on : Ghosts D) where
     pub faults : on.faults made ≤ on.faults disk
     pub still_tells : on.tells disk ≡ on.tells made
     pub same_names : on.names disk ≡ on.names made
+    pub same_found : on.found disk ≡ on.found made
     pub start : (s : FirstSync) → on.start made ≡ Some s → on.start disk ≡ Some s
     pub state : Goes dp b made disk tail ⊎ HasStopped dp b made disk
 
