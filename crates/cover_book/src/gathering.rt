@@ -14,7 +14,7 @@ use dp_model::{DpModel, OutOfMemory};
 use std::alloc::Global;
 
 /// How many rows of a layer serve others while it is gathered.
-const MOST_SERVERS: usize = 16;
+const MOST_SERVERS: usize = 1;
 
 /// The greatest size of a bound that a cover's text can hold.
 const MOST_BOUND: i64 = 4_611_686_018_427_387_904;
@@ -250,7 +250,14 @@ fn gather_node<M: DpModel, S: RowSource>(
     };
     row.below = below;
     let bound = bound_at(aim.model, depth, row.bound);
-    if let Some(server) = layer.servers.serve(aim.alloc, row.words, bound, number)? {
+    let server = if below == Below::Waits {
+        layer.servers.serve(aim.alloc, row.words, bound, number)?
+    } else {
+        layer
+            .servers
+            .serve_at_pace(aim.alloc, row.words, bound, number)?
+    };
+    if let Some(server) = server {
         return Ok(server);
     }
     put_node(aim, source, depth, node, &row, numbers, layer)?;

@@ -19,14 +19,34 @@ pub(crate) struct Server {
     pub(crate) number: u32,
 }
 
-/// Rows of a layer of a problem that serve others: at most this many, but one at least, those with the least bounds, and of those with
-/// the greatest ranks.
+/// Which rows are compared with those that serve: each one at first, and one in some while hardly any is served.
+#[derive(Clone, Copy, Debug)]
+struct Pace {
+    is_slow: bool,
+    // How many rows were left out since one was compared.
+    left_out: u32,
+    // How many rows were compared, and how many of them served, since the counts began anew.
+    compared: u32,
+    served: u32,
+}
+
+/// The strongest rows of a layer that came so far: at most this many, but one at least, those with the least bounds, and of those with the
+/// same bound the ones with the greatest ranks.
+#[derive(Debug, Drop)]
+struct Strongest {
+    most: usize,
+    list: Vec<Server>,
+    // The place of the weakest one.
+    weakest: usize,
+}
+
+/// Rows of a layer of a problem that serve others, the strongest ones.
 #[derive(Drop)]
 pub(crate) struct Servers<'m, M: DpModel> {
     model: &'m M,
     depth: usize,
-    most: usize,
-    list: Vec<Server>,
+    strongest: Strongest,
+    pace: Pace,
 }
 
 impl<'m, M: DpModel> Model for Servers<'m, M> {
@@ -39,7 +59,56 @@ impl<'m, M: DpModel> Model for Servers<'m, M> {
     ghost view = { λ s. s.depth };
 
     ghost invariant = { λ s. (s.depth ≤ (M.meaning (M.numbers s.model.now)).vars)
-        × Each (IsServer (M.meaning (M.numbers s.model.now)) s.depth) s.list.items };
+        × Each (IsServer (M.meaning (M.numbers s.model.now)) s.depth) s.strongest.list.items };
+}
+
+/// How many rows have to be served for each further one to be compared.
+const ENOUGH: u32 = 2;
+
+/// Where fewer were served of this many, one in some is compared from then on.
+const MANY: u32 = 128;
+
+/// One in this many.
+const STRIDE: u32 = 4;
+
+impl Pace {
+    /// Each row is compared.
+    fn new() -> Pace {
+        Pace {
+            is_slow: false,
+            left_out: 0,
+            compared: 0,
+            served: 0,
+        }
+    }
+
+    /// Whether the next row is to be compared.
+    fn is_due(&mut self) -> bool {
+        if !self.is_slow {
+            return true;
+        }
+        self.left_out = self.left_out.saturating_add(1);
+        if self.left_out < STRIDE {
+            return false;
+        }
+        self.left_out = 0;
+        true
+    }
+
+    /// Counts a row that was compared.
+    fn count(&mut self, is_served: bool) {
+        self.compared = self.compared.saturating_add(1);
+        if is_served {
+            self.served = self.served.saturating_add(1);
+        }
+        if self.served >= ENOUGH {
+            *self = Pace::new();
+        } else if self.compared >= MANY {
+            self.is_slow = true;
+            self.compared = 0;
+            self.served = 0;
+        }
+    }
 }
 
 /// The greatest gap at which a row with the one bound serves a row with the other; none where no gap does.
@@ -106,27 +175,27 @@ fn is_stronger(rank: i64, bound: Option<i64>, server: &Server) -> bool {
     }
 }
 
-/// The place of the weakest server, which is the first one where there is no other.
-fn place_of_weakest(servers: &[Server]) -> usize
-    requires { 0 < length servers.now }
-    ensures { result < length servers.now }
-{
+/// The place of the weakest server; 0 where there is none.
+fn place_of_weakest(servers: &[Server]) -> usize {
     let mut weakest = 0;
     'servers: for i in 1..servers.len() {
         let server = &servers[i];
-        if !is_stronger(server.rank, server.bound, &servers[weakest]) {
-            weakest = i;
+        if let Some(other) = servers.get(weakest) {
+            if !is_stronger(server.rank, server.bound, other) {
+                weakest = i;
+            }
         }
     }
     weakest
 }
 
-/// Puts in a row that serves. Where there are as many as there may be, it takes the place of the weakest one, or is left out.
-fn put_server<M: DpModel>(
+/// Puts in a row that serves: after the others, or at a place of theirs where there are as many as there may be.
+fn put_at<M: DpModel>(
     _model: &M,
     _k: usize,
     server: Server,
     most: usize,
+    place: usize,
     servers: &mut Vec<Server>,
 ) -> Result<(), OutOfMemory>
     requires servers { Each (IsServer (M.meaning (M.numbers _model.now)) _k) servers.old.items }
@@ -139,10 +208,26 @@ fn put_server<M: DpModel>(
         servers.push_reserved(server);
         return Ok(());
     }
-    let place = place_of_weakest(servers.as_slice());
-    if is_stronger(server.rank, server.bound, &servers[place]) {
+    if place < count {
         servers[place] = server;
     }
+    Ok(())
+}
+
+/// Puts in a row that serves. Where there are as many as there may be, it takes the place of the weakest one.
+fn put_server<M: DpModel>(
+    model: &M,
+    k: usize,
+    server: Server,
+    strongest: &mut Strongest,
+) -> Result<(), OutOfMemory>
+    requires servers { Each (IsServer (M.meaning (M.numbers model.now)) k) strongest.old.list.items }
+    requires server { IsServer (M.meaning (M.numbers model.now)) k server }
+    ensures { Each (IsServer (M.meaning (M.numbers model.now)) k) strongest.new.list.items }
+{
+    let (most, place) = (strongest.most, strongest.weakest);
+    put_at(model, k, server, most, place, &mut strongest.list)?;
+    strongest.weakest = place_of_weakest(strongest.list.as_slice());
     Ok(())
 }
 
@@ -179,6 +264,19 @@ impl Server {
     }
 }
 
+impl Strongest {
+    /// Whether a row with this rank would be put in: where there are fewer than there may be, or where it is stronger than the weakest.
+    fn wants(&self, rank: i64, bound: Option<i64>) -> bool {
+        if self.list.len() < self.most {
+            return true;
+        }
+        match self.list.get(self.weakest) {
+            None => true,
+            Some(weakest) => is_stronger(rank, bound, weakest),
+        }
+    }
+}
+
 impl<'m, M: DpModel> Servers<'m, M> {
     /// No rows of a layer, and later at most this many. It takes no memory.
     pub(crate) fn new(alloc: Global, model: &'m M, depth: usize, most: usize) -> Servers<'m, M>
@@ -187,18 +285,13 @@ impl<'m, M: DpModel> Servers<'m, M> {
         Servers {
             model,
             depth,
-            most,
-            list: Vec::new(alloc),
+            strongest: Strongest {
+                most,
+                list: Vec::new(alloc),
+                weakest: 0,
+            },
+            pace: Pace::new(),
         }
-    }
-
-    /// Whether a row with this rank would be put in: where there are fewer than there may be, or where it is stronger than the weakest.
-    fn wants(&self, rank: i64, bound: Option<i64>) -> bool {
-        let servers = self.list.as_slice();
-        if servers.is_empty() || servers.len() < self.most {
-            return true;
-        }
-        is_stronger(rank, bound, &servers[place_of_weakest(servers)])
     }
 
     /// Lets a row serve, under its number, where it is a state of the layer.
@@ -212,17 +305,17 @@ impl<'m, M: DpModel> Servers<'m, M> {
         let Some(rank) = rank_of(self.model, self.depth, words) else {
             return Ok(());
         };
-        if !self.wants(rank, bound) {
+        if !self.strongest.wants(rank, bound) {
             return Ok(());
         }
         let server = Server::of(alloc, words, rank, bound, number)?;
-        put_server(self.model, self.depth, server, self.most, &mut self.list)
+        put_server(self.model, self.depth, server, &mut self.strongest)
     }
 
     /// The number of a row that serves another one of its layer; none where there is none.
     pub(crate) fn server_of(&self, words: &[i64], bound: Option<i64>) -> Option<u32> {
         let rank = rank_of(self.model, self.depth, words)?;
-        let servers = self.list.as_slice();
+        let servers = self.strongest.list.as_slice();
         number_of_server(self.model, self.depth, servers, words, rank, bound)
     }
 
@@ -238,12 +331,28 @@ impl<'m, M: DpModel> Servers<'m, M> {
         let Some(rank) = rank_of(self.model, self.depth, words) else {
             return Ok(None);
         };
-        let servers = self.list.as_slice();
+        let servers = self.strongest.list.as_slice();
         let found = number_of_server(self.model, self.depth, servers, words, rank, bound);
-        if found.is_none() && self.wants(rank, bound) {
+        if found.is_none() && self.strongest.wants(rank, bound) {
             let server = Server::of(alloc, words, rank, bound, number)?;
-            put_server(self.model, self.depth, server, self.most, &mut self.list)?;
+            put_server(self.model, self.depth, server, &mut self.strongest)?;
         }
+        Ok(found)
+    }
+
+    /// Does what `serve` does, but leaves out most rows where hardly any of the last ones was served.
+    pub(crate) fn serve_at_pace(
+        &mut self,
+        alloc: Global,
+        words: &[i64],
+        bound: Option<i64>,
+        number: u32,
+    ) -> Result<Option<u32>, OutOfMemory> {
+        if !self.pace.is_due() {
+            return Ok(None);
+        }
+        let found = self.serve(alloc, words, bound, number)?;
+        self.pace.count(found.is_some());
         Ok(found)
     }
 }

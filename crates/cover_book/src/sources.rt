@@ -4,7 +4,7 @@ ghost use Rattle.std.specs.Prelude.{◌≡◌, ◌^◌, ◌<◌, ◌≤◌, true
 ghost use Rattle.dp_laws.specs.Diagrams.Nodes.{node_at};
 ghost use Rattle.relaxed_dd.specs.Shown.{layers_of};
 
-use crate::rows::{arcs_of, claim_of, is_deep, is_last_exact, leads_at};
+use crate::rows::{claim_of, is_deep, is_last_exact, leads_at};
 use bound_cover::CoverArc;
 use dp_model::OutOfMemory;
 use relaxed_dd::Diagram;
@@ -103,8 +103,16 @@ fn add_arcs(
     requires first { (layers_of diagram.now).first ≤ depth }
     requires place { IsSome (node_at (layers_of diagram.now) depth node) }
 {
-    let own = arcs_of(*arcs.allocator(), diagram, depth, node, 0)?;
-    arcs.extend_from_slice(own.as_slice())
+    let count = diagram.arcs(depth, node);
+    arcs.reserve(count)?;
+    'arcs: for i in 0..count {
+        let arc = diagram.arc(depth, node, i);
+        arcs.push(CoverArc {
+            decision: arc.decision,
+            target: arc.target,
+        })?;
+    }
+    Ok(())
 }
 
 impl<'w> RowSource for Diagram<'w> {

@@ -162,7 +162,7 @@ impl<'m, M: DpModel> Kept<'m, M> {
         arcs: Option<&[CoverArc]>,
     ) -> Result<u32, OutOfMemory> {
         let number = last_count(&self.rows);
-        if let Some(server) = self.servers.serve(alloc, words, bound, number)? {
+        if let Some(server) = self.servers.serve_at_pace(alloc, words, bound, number)? {
             return Ok(server);
         }
         push_row(bound, words, arcs, &mut self.rows)?;
