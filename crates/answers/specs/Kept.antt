@@ -1,5 +1,5 @@
 -- When the answer to a search that keeps a journal is right.
-use Rattle.std.specs.Prelude.{◌≡◌, ℕ, ℤ, List, [], ◌∷◌, cond, Option, Some, None, MatchResult, IfOk, IsSome}
+use Rattle.std.specs.Prelude.{◌≡◌, ℕ, ℤ, List, [], ◌∷◌, cond, Option, Some, None, MatchResult, IfOk, IsErr, IsSome}
 use Rattle.disk.specs.declared.disk.Disk.{Ghosts}
 use Rattle.disk.specs.Counts.{Rose}
 use Rattle.dp_model.specs.Dp.{Dp}
@@ -9,12 +9,14 @@ use Rattle.journal_bytes.specs.Frames.{frames_of}
 use Rattle.journal_bytes.specs.declared.head.Part.{Part}
 use Rattle.journal_bytes.specs.declared.head.TheConstants.{VERSION}
 use Rattle.journal_bytes.specs.Journal.{HeadView, JournalView, HasRecords, after_head, journal_of}
+use Rattle.journal_file.specs.Beginning.{BeganAt}
 use Rattle.journal_file.specs.Refusing.{error_of}
 use Rattle.journal_file.specs.declared.error.JournalError.TheVariants as errors
 use Rattle.journal_replay.specs.Accepting.{AreAccepted, AreRefused}
 use Rattle.journal_replay.specs.Replay.{replay_of, restored_from}
 use Rattle.journal_replay.specs.Parts.{starts_of}
 use Rattle.journal_replay.specs.Sound.{AreSound, AreSoundOf}
+use Rattle.kept_board.specs.Records.{AreAdded}
 use Rattle.problem_names.specs.declared.ModelName.{ModelName}
 use Rattle.problems.specs.Theories.{theory_of}
 use Rattle.problem_theory.specs.Theory.{Theory}
@@ -37,9 +39,9 @@ use Rattle.solver_words.specs.declared.job.JobSettings.{JobSettings}
 abbrev pub head_of : Theory → ModelName → ℤ → List ℤ → HeadView
 head_of t name within numbers = record { version = VERSION; within = within; model = name; part = None; text = t.canonical numbers }
 
--- each front of these records may stand after old ones, where those are accepted
+-- a search may add these records itself to old ones, where those are accepted, and each front of them may stand there
 abbrev pub MayBeAdded : Dp → ℤ → List RecordView → List RecordView → Type 0
-MayBeAdded dp within old written = AreAccepted dp old → AreFrontsAdded dp within old written
+MayBeAdded dp within old written = AreAccepted dp old → AreAdded dp within old written × AreFrontsAdded dp within old written
 
 -- the same for the instance that the head of their journal spells, and its distance
 abbrev pub MayFollow : HeadView → List RecordView → List RecordView → Type 0
@@ -138,9 +140,10 @@ module _ {D : Type 0} (on : Ghosts D) where
   ResumesOffered search before now bytes answer =
       MatchResult (reports_of bytes) (λ rs. Resumes (parts_told rs) search before now answer) (λ e. RefusesReport e answer × (now ≡ before))
 
-  -- and what it leaves on the disk, whatever it answers: the named file is attached, and whatever journal the first sync found there, it has gone on from that
-  -- with records that may follow
+  -- and what it leaves on the disk, whatever it answers: the named file is attached; whatever journal the first sync found there, it has gone on from that
+  -- with records that may follow; and where it found none, nothing was written
   pub record LeavesAfterResume (Follow : HeadView → List RecordView → List RecordView → Type 0) (path : List ℕ) (before now : D) : Type 0 where
     pub attaches : Attaches on path before now
     pub written : List RecordView
     pub leaves : (head : HeadView) (old : List RecordView) → SinceAttached on now (λ s. HasRecords head old s.content → HasGoneOn on (Follow head old written) head old written now s)
+    pub spared : SinceAttached on now (λ s. IsErr (journal_of s.content) → BeganAt on.moment on.left_since s now s.content)

@@ -33,7 +33,7 @@ pub fn begin_journal<P: Problem, D: Disk>(
     requires named { theory_of name ≡ P.theory }
     requires distance { IsDistance search.within }
 
-    // The named file is attached, and no other.
+    // The named file is attached, and no other. The first sync finds it as it was then.
     ensures attaches { Attaches D.Disk path.now disk.old disk.new }
 
     // A record may be added after the head.
@@ -85,7 +85,7 @@ pub fn open_journal<D: Disk>(
     disk: &mut D,
     path: &str,
 ) -> Result<(Head, Records, Tail), JournalError>
-    // The named file is attached, and no other.
+    // The named file is attached, and no other. The first sync finds it as it was then.
     ensures attaches { Attaches D.Disk path.now disk.old disk.new }
 
     // What is read, or the first cause for which it is refused. The text of the head is short enough to be read.
