@@ -45,7 +45,7 @@ use Rattle.answers.specs.Outcomes.{HasSearched}
 use Rattle.answers.specs.PartSearches.{part_outcome}
 use Rattle.answers.specs.Over.{IsOver}
 use Rattle.solver_words.specs.declared.job.JobSettings.{JobSettings}
-use Rattle.answers.proofs.Journaled.{IsFound, at-first, ends-resumed, failed-later, is-found, left-following, none-following, same-names, same-start, still-first, still-tells}
+use Rattle.answers.proofs.Journaled.{IsFound, at-first, ends-resumed, failed-later, is-found, left-following, none-following, same-start, stays-attached, still-first}
 use Rattle.solver_cli.specs.Journals.{IsOpened, LeavesOpened, TouchesNothing}
 use Rattle.solver_cli.specs.Searches.{IsKeptOn, IsToldOn, KeepsSome, begins_with, or_memory, report_in}
 use Rattle.solver_cli.specs.Starts.{AreAsked, DoesNotTake, GoesOnFrom}
@@ -127,12 +127,14 @@ module _ {D : Type 0} (on : Ghosts D) where
           let b = k.board in
           let tail = k.keeps.tail in
           let following = left-following on dp b made now tail k.keeps.same k.keeps.kept opened.synced opened.counted head records (λ tells. (opened.is_open tells).1) opened.found opened.unwritten in
+          let stays = stays-attached on dp b made now tail k.keeps.same k.keeps.kept opened.synced in
           record {
             written = following.0;
             gone = following.1;
-            start = same-start on dp b made now tail k.keeps.same k.keeps.kept opened.synced;
-            still_tells = still-tells on dp b made now tail k.keeps.same k.keeps.kept;
-            same_names = same-names on dp b made now tail k.keeps.same k.keeps.kept;
+            start = stays.start;
+            still_tells = stays.still_tells;
+            same_names = stays.same_names;
+            same_found = stays.same_found;
           }
 
       -- where the disk has failed since the making, it has failed after the first sync
@@ -225,6 +227,7 @@ module _ {D : Type 0} (on : Ghosts D) where
     start = refl;
     still_tells = refl;
     same_names = refl;
+    same_found = refl;
   }
 
   -- the same, by what may follow the records
@@ -236,6 +239,7 @@ module _ {D : Type 0} (on : Ghosts D) where
     start = l.start;
     still_tells = l.still_tells;
     same_names = l.same_names;
+    same_found = l.same_found;
   }
 
   -- it is not refused for the disk

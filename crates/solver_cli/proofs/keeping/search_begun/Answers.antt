@@ -1,7 +1,7 @@
 use Rattle.std.proofs.Common.{true, is_some, ap, sym, subst, IfOk, ◌∙◌}
 use Rattle.std.specs.Arc.{arc_value}
 use Rattle.answers.specs.Kept.{head_of}
-use Rattle.solver_cli.proofs.Beginning.{ends, left, same-attached, same-begun}
+use Rattle.solver_cli.proofs.Beginning.{ends, left, same-attached}
 use Rattle.answers.specs.Outcomes.{IsTrueOf}
 use Rattle.solver_cli.specs.Searches.{IsKeptOn}
 use Rattle.solver_cli.proofs.Told.{books-here, first-is, keeps-here, searched-here, told-true}
@@ -37,8 +37,8 @@ returns-clause-left g c =
     let keeps = keeps-here g.D.Disk meaning (g.P.DpModel.numbers c.deref.result.now) here (ap g.P.DpModel.numbers c.deref.ensures) c.new-kept.result board c.args.disk true kept.board kept.made (ap is_some kept.tail) now c.search_from-ended.ensures.keeps in
     left g.D.Disk (meaning here) (own here) head c.args.search c.requires.may.distance c.args.disk c.args.tail c.requires.ready now board.board.settings keeps
 
-pub returns-clause-names : goal.returns-clause-names
-returns-clause-names g c =
+pub returns-clause-attached : goal.returns-clause-attached
+returns-clause-attached g c =
     let meaning = g.P.DpModel.meaning in
     let own = g.P.Problem.theory.own_value in
     let here = g.P.DpModel.numbers (arc_value c.args.start.model) in
@@ -46,16 +46,6 @@ returns-clause-names g c =
     let now = c.search_from-ended.result.1 in
     let keeps = keeps-here g.D.Disk meaning (g.P.DpModel.numbers c.deref.result.now) here (ap g.P.DpModel.numbers c.deref.ensures) c.new-kept.result c.args.start.board c.args.disk true kept.board kept.made (ap is_some kept.tail) now c.search_from-ended.ensures.keeps in
     same-attached g.D.Disk (meaning here) (own here) (head_of g.P.Problem.theory c.args.name c.args.search.within here) c.args.search c.requires.may.distance c.args.disk c.args.tail c.requires.ready now keeps.board keeps.keeps
-
-pub returns-clause-start : goal.returns-clause-start
-returns-clause-start g c =
-    let meaning = g.P.DpModel.meaning in
-    let own = g.P.Problem.theory.own_value in
-    let here = g.P.DpModel.numbers (arc_value c.args.start.model) in
-    let kept = c.new-kept.ensures in
-    let now = c.search_from-ended.result.1 in
-    let keeps = keeps-here g.D.Disk meaning (g.P.DpModel.numbers c.deref.result.now) here (ap g.P.DpModel.numbers c.deref.ensures) c.new-kept.result c.args.start.board c.args.disk true kept.board kept.made (ap is_some kept.tail) now c.search_from-ended.ensures.keeps in
-    same-begun g.D.Disk (meaning here) (own here) (head_of g.P.Problem.theory c.args.name c.args.search.within here) c.args.search c.requires.may.distance c.args.disk c.args.tail c.requires.ready now keeps.board keeps.keeps
 
 pub answer_of-requires-clause-true_told : goal.answer_of-requires-clause-true_told
 answer_of-requires-clause-true_told g c κs within =

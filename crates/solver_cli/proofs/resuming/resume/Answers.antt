@@ -21,7 +21,7 @@ returns-in-Ok-clause-left g c =
     let l = c.resume_journal.ensures.left in
     let found = is-found-still g.D.Disk (map report_view c.args.offers.now) c.args.search c.args.disk made now (MayFollow (head_view c.in-Ok.tail.version c.in-Ok.head) c.in-Ok.records.records) (c.in-Ok.head, c.in-Ok.records, c.in-Ok.tail) c.in-Ok.ensures.opened c.in-Ok.ensures.began l in
     left-resumed g.D.Disk c.args.path.now c.args.disk now (head_view c.in-Ok.tail.version c.in-Ok.head) c.in-Ok.records.records l.written
-    (still-attaches g.D.Disk c.args.path.now c.args.disk made now c.in-Ok.ensures.began l.same_names c.open_journal.ensures.attaches) found l.gone
+    (still-attaches g.D.Disk c.args.path.now c.args.disk made now c.in-Ok.ensures.began (record { still_tells = l.still_tells; same_names = l.same_names; same_found = l.same_found; start = l.start }) c.open_journal.ensures.attaches) found l.gone
 
 pub returns-in-Err-clause-resumes : goal.returns-in-Err-clause-resumes
 returns-in-Err-clause-resumes g c = not-opened g.D.Disk (map report_view c.args.offers.now) c.args.search c.args.disk c.open_journal.new.disk c.in-Err.error c.in-Err.ensures.opened (λ is. c.in-Err.ensures.disk (ap (λ (e : JournalError). Err e) is)) c.open_journal.ensures.unwritten
