@@ -5,6 +5,7 @@ ghost use Rattle.board_laws.specs.Board.{reach};
 ghost use Rattle.dp_model.specs.Numbers.{OptionAtMost};
 ghost use Rattle.dp_model.specs.Reached.{reached};
 ghost use Rattle.dp_model.specs.Subproblem.{IsOwn};
+ghost use Rattle.dp_laws.specs.Children.{found_value};
 ghost use Rattle.dp_laws.specs.Diagrams.Cutsets.{children_at, found_in};
 ghost use Rattle.dp_laws.specs.Restricted.Beams.{beam, wide};
 ghost use Rattle.dp_laws.specs.Rules.Compiling.{relaxed};
@@ -103,6 +104,7 @@ pub fn relax<M: DpModel, D: Disk>(
     requires cutset { HoldsChildren (M.meaning (M.numbers model.now)) space.old.width kind cutset.old }
     ensures threshold { IfOk result (λ t. t ≡ reach kept.old.board.board) }
     ensures subs { IfOk result (λ threshold. cutset.new.subs ≡ taken_from (M.meaning (M.numbers model.now)) (relaxed (M.meaning (M.numbers model.now)) (reached (M.meaning (M.numbers model.now)) taken.now.subproblem.decisions) space.old.width threshold) kind) }
+    ensures found { IfOk result (λ threshold. OptionAtMost (found_value (found_in (M.meaning (M.numbers model.now)) (relaxed (M.meaning (M.numbers model.now)) (reached (M.meaning (M.numbers model.now)) taken.now.subproblem.decisions) space.old.width threshold))) (reach kept.new.board.board)) }
     ensures branched { IfOk result (λ threshold. IsBranched (M.meaning (M.numbers model.now)) kept.new.board.board taken.now.subproblem.decisions threshold cutset.new.subs) }
     ensures offered { OnOk result (IsOffered (M.meaning (M.numbers model.now)) kept.old.board.board kept.new.board.board) }
     ensures refused { IfErr result (λ error. IsRefused (M.meaning (M.numbers model.now)) kept.old.board.board error kept.new.board.board) }

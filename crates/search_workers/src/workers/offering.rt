@@ -167,6 +167,7 @@ pub fn relax_one<M: DpModel, D: Disk + Send, G: Gate, R: Threads + Wait + Sync>(
     ensures out { OnOk result (out_of seat.new ≡ out_of seat.old) }
     ensures no_less { NoLess (seen_of seat.old) (seen_of seat.new) }
     ensures subs { OnOk result (desk.new.cutset.subs ≡ taken_from (M.meaning (M.numbers crew.now.model.now)) (relaxed (M.meaning (M.numbers crew.now.model.now)) (reached (M.meaning (M.numbers crew.now.model.now)) desk.old.taken.subproblem.decisions) desk.old.space.width reach) desk.old.kind) }
+    ensures found { OnOk result (OptionAtMost (found_value (found_in (M.meaning (M.numbers crew.now.model.now)) (relaxed (M.meaning (M.numbers crew.now.model.now)) (reached (M.meaning (M.numbers crew.now.model.now)) desk.old.taken.subproblem.decisions) desk.old.space.width reach))) (reach_seen crew.now.turn.now seat.new)) }
     ensures branched { OnOk result (AreBranched (M.meaning (M.numbers crew.now.model.now)) (first_of crew.now.turn.now).board.board.settings.width (reach_seen crew.now.turn.now seat.new) desk.old.taken.subproblem.decisions reach desk.new.cutset.subs) }
     ensures holds { HoldsDiagram (M.meaning (M.numbers crew.now.model.now)) desk.new.space desk.new.cutset }
     ensures stopped { IfErr result (λ stopped. IsLeftOut stopped (out_of seat.old) (out_of seat.new)) }

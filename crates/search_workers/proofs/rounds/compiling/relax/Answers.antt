@@ -39,3 +39,7 @@ returns-clause-branched g c =
     (relaxed-branched dp (laws_of g c.args.model.now) (chain_of g c.args.model.now) b c.args.taken.now.subproblem c.args.space.now.width t c.args.kind c.requires.own c.requires.prepared.width same
     (subst (λ v. OptionAtMost v (reach b)) (sym (c.reach-threshold.ensures ∙ ap (λ (v : BoardView). reach v.board) c.board.ensures.board)) c.in_ok-offer.ensures.before)
     (subst (λ (f : Option Solution). OptionAtMost (found_value f) (reach b)) found c.in_ok-offer.ensures.found))
+
+pub returns-clause-found : goal.returns-clause-found
+returns-clause-found g c =
+    subst (λ (f : Option Solution). OptionAtMost (found_value f) (reach c.offer.new.kept.board.board)) (shown-solution _ _ c.found.ensures ∙ c.fill.ensures.found) c.in_ok-offer.ensures.found

@@ -39,3 +39,7 @@ returns-clause-branched g c =
     c.requires.room.space.width c.requires.room.width
     (subst (λ v. OptionAtMost v reach) (sym c.requires.reach) (seen-later settings.within (seen_of c.args.seat.now) (seen_of c.offer_one.new.seat) c.offer_one.ensures.no_less))
     (subst (λ (f : Option Solution). OptionAtMost (found_value f) reach) found c.in_ok-offer_one.ensures.found))
+
+pub returns-clause-found : goal.returns-clause-found
+returns-clause-found g c =
+    subst (λ (f : Option Solution). OptionAtMost (found_value f) (reach_seen c.args.crew.now.turn.now c.offer_one.new.seat)) (shown-solution _ _ c.found.ensures ∙ c.fill_desk.ensures.found) c.in_ok-offer_one.ensures.found
