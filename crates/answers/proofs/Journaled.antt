@@ -411,7 +411,7 @@ module _ {D : Type 0} (on : Ghosts D) where
   attached-since path before mid new names keeps same first = inl (
     keeps.same_names ∙ names,
     after-attaching mid new (λ s. s.content ≡ on.found new) keeps.still_tells same keeps.same_found
-    (λ tells. subst (λ f. AtFirstSync (on.start new) (on.seen mid) (on.seen new) (λ s. s.content ≡ f)) (sym (keeps.same_found ∙ same)) (first tells)),
+        (λ tells. subst (λ f. AtFirstSync (on.start new) (on.seen mid) (on.seen new) (λ s. s.content ≡ f)) (sym (keeps.same_found ∙ same)) (first tells)),
   )
 
   -- a file in which no journal may begin was left alone
