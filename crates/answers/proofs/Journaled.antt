@@ -1,9 +1,9 @@
 -- What a run with a journal leaves on its disk, from what its kept board keeps.
-use Rattle.std.proofs.Common.{◌≡◌, ◌≢◌, ◌⊎◌, inl, inr, ⊎_elim, ℕ, ℤ, ◌-◌, ◌^◌, ◌≤◌, ◌<◌, Bool, true, false, ◌||◌, nat_eq, nat_lt, List, [], ◌∷◌, ◌++◌, length, get_or, Option, Some, None, is_some, IsSome, IfSome, IfOk, IfErr, OnOk, IsSomeAnd, IsTrue, Result, Ok, Err, refl, sym, ◌∙◌, ap, subst, append-nil, arith}
+use Rattle.std.proofs.Common.{◌≡◌, ◌≢◌, ◌⊎◌, inl, inr, ⊎_elim, ℕ, ℤ, ◌-◌, ◌^◌, ◌≤◌, ◌<◌, Bool, true, false, ◌||◌, nat_eq, nat_lt, List, [], ◌∷◌, ◌++◌, length, get_or, Option, Some, None, is_some, IsSome, IfSome, IfOk, IfErr, OnOk, IsSomeAnd, IsTrue, IsErr, Result, Ok, Err, refl, sym, ◌∙◌, ap, subst, append-nil, arith}
 use Rattle.std.proofs.lemmas.Bool.{eqb-true, ltb-true}
 use Rattle.disk.specs.declared.disk.Disk.{Ghosts}
 use Rattle.disk.specs.Counts.{Rose}
-use Rattle.disk.specs.Disk.{FirstSync, AtFirstSync, LeavesOnly}
+use Rattle.disk.specs.Disk.{FirstSync, AtFirstSync, Keeps, LeavesOnly}
 use Rattle.dp_model.specs.Distances.{IsDistance}
 use Rattle.dp_model.specs.Dp.{Dp}
 use Rattle.dp_model.specs.Laws.{IsLawful}
@@ -12,12 +12,11 @@ use Rattle.board_laws.specs.declared.settings.Settings.{Settings}
 use Rattle.board_laws.specs.Board.{AreSettings, BoardState, full_slots}
 use Rattle.board_laws.specs.GoodBoard.{IsGood}
 use Rattle.board_laws.specs.Starts.{whole_search}
-use Rattle.board_laws.specs.Steps.{first_board}
 use Rattle.board_laws.specs.Taking.{is_budget_up}
 use Rattle.journal_bytes.specs.declared.tail.Tail.{Tail}
 use Rattle.journal_bytes.specs.declared.head.Head.{Head}
 use Rattle.journal_bytes.specs.Bodies.{RecordView, RecordsView}
-use Rattle.journal_bytes.specs.Journal.{HeadView, JournalView, HasRecords, head_view}
+use Rattle.journal_bytes.specs.Journal.{HeadView, JournalView, HasRecords, head_view, journal_of}
 use Rattle.journal_file.specs.Beginning.{BeganAt, IsBegun, LeavesSince, MayBegin}
 use Rattle.journal_file.specs.Refusing.{IsRefusal, KeepsFromBeginning, WasOpened}
 use Rattle.journal_file.specs.Settled.{IsOpen}
@@ -32,7 +31,7 @@ use Rattle.kept_board.specs.Kept.{HasFront, MayKeep, IsCurrent, IsBroken, Goes, 
 use Rattle.kept_board.specs.Records.{AreAdded, KeepUp, finish_records}
 use Rattle.kept_board.proofs.Growing.{fronts-added}
 use Rattle.answers.specs.Kept.{LeavesAfterResume, MayBeAdded, MayFollow}
-use Rattle.answers.specs.Journals.{AreFrontsAdded, AreFrontsSound, Attaches, HasAllButOne, HasBegun, HasGoneOn, HasKept, HasLeftBegun, HasOpened, IsRefusedToBegin, IsUnwritten, LeavesBegun, LeavesResumed, MightBegin, SinceAttached, SparesOthers}
+use Rattle.answers.specs.Journals.{AreFrontsAdded, AreFrontsSound, Attaches, HasAllButOne, HasBegun, HasGoneOn, HasKept, HasLeftBegun, HasOpened, IsRefusedToBegin, IsUnwritten, LeavesBegun, LeavesResumed, MightBegin, SinceAttached, SparesOthers, StaysAttached}
 use Rattle.problems.specs.Theories.{theory_of}
 
 -- ---- a file is one journal
@@ -42,6 +41,10 @@ one-journal head other records others file here there =
     let both : Ok (record { head = other; records = others; tail = there.0 }) ≡ Ok (record { head = head; records = records; tail = here.0 }) = sym there.1 ∙ here.1 in
     let same : record { head = other; records = others; tail = there.0 } ≡ record { head = head; records = records; tail = here.0 } = cc in
     (ap (λ (j : JournalView). j.head) same, ap (λ (j : JournalView). j.records) same)
+
+-- and not refused
+is-read : (head : HeadView) (records : List RecordView) (file : List ℕ) → HasRecords head records file → IsErr (journal_of file) → ⊥
+is-read head records file has none = absurd (let no : false ≡ true = subst IsErr has.1 none in cc)
 
 -- a front after the records of one file, in the words of another reading of it
 same-front : (head other : HeadView) (old others new : List RecordView) (file c : List ℕ) → HasRecords head old file → HasRecords other others file → HasFront other others new c → HasFront head old new c
@@ -89,6 +92,10 @@ none-fronts dp laws within near front others same =
 -- each front of records that are added
 fronts-of : (dp : Dp) (within : ℤ) (old written : List RecordView) → AreAdded dp within old written → AreFrontsAdded dp within old written
 fronts-of dp within old written added front others same = fronts-added dp within old front others (subst (AreAdded dp within old) same added)
+
+-- no records may stand after accepted ones
+none-added : (dp : Dp) (within : ℤ) (old : List RecordView) → AreAccepted dp old → AreAdded dp within old []
+none-added dp within old accepted = record { accepted = accepted; goes_on = tt; sound = λ starts sound. (journals-grow dp old []).last starts within sound }
 
 fronts-begun : (dp : Dp) (within : ℤ) (written : List RecordView) → AreSound dp within [] → AreAdded dp within [] written → AreFrontsSound dp within written
 fronts-begun dp within written none added front others same = let front-of = fronts-of dp within [] written added front others same in (front-of.accepted, front-of.sound whole_search none)
@@ -165,13 +172,7 @@ module _ {D : Type 0} (on : Ghosts D) where
   is-found disk r opened tells = at-first (on.start disk) (on.found disk) (on.seen disk) (λ s. s.content ≡ opened.file) (λ s. HasRecords (head_view r.2.version r.0) r.1.records s.content)
       (λ s same. subst (HasRecords (head_view r.2.version r.0) r.1.records) (sym same) (r.2, opened.opens)) (opened.is_file tells)
 
-  -- a board may be kept in a journal that was begun for it
-  pub made-begun : (dp : Dp) (settings : Settings) (b : BoardState) (disk : D) (tail : Tail) (head : HeadView) → IsReadyWith head [] disk tail → b.settings.within ≡ head.within → b ≡ first_board dp settings → MayKeep on dp b disk (Some tail)
-  made-begun dp settings b disk tail head ready near first =
-      let own = first ∙ ap (λ (x : BoardState). first_board dp x.settings) (sym first) in
-      (ready.0, λ tells. let here = ready.1 tells in record { is_open = here.0; head = head; records = []; reads = here.1; within = near; made = inl (refl, own) })
-
-  -- and in one of whose records it was made
+  -- a board may be kept in a journal of whose records it was made
   pub made-resumed : (dp : Dp) (settings : Settings) (b : BoardState) (disk : D) (tail : Tail) (head : HeadView) (records : List RecordView) → IsReadyWith head records disk tail → b.settings.within ≡ head.within → AreAccepted dp records → b ≡ restored_from settings (replay_of dp records)
       → MayKeep on dp b disk (Some tail)
   made-resumed dp settings b disk tail head records ready near accepted restored =
@@ -265,7 +266,7 @@ module _ {D : Type 0} (on : Ghosts D) where
   has-none dp b made now (Some t) none k = absurd (cc)
 
   -- the disk tells what it told, and its first sync stays
-  pub still-tells : (dp : Dp) (b : BoardState) (made now : D) (tail : Option Tail) → IsSome tail → IsKept on dp b made now tail → on.tells now ≡ on.tells made
+  still-tells : (dp : Dp) (b : BoardState) (made now : D) (tail : Option Tail) → IsSome tail → IsKept on dp b made now tail → on.tells now ≡ on.tells made
   still-tells dp b made now tail some k = (has-journal dp b made now tail some k).1.still_tells
 
   pub same-start : (dp : Dp) (b : BoardState) (made now : D) (tail : Option Tail) → IsSome tail → IsKept on dp b made now tail → IsSome (on.start made) → on.start now ≡ on.start made
@@ -283,13 +284,19 @@ module _ {D : Type 0} (on : Ghosts D) where
   pub spares : (disk : D) → MightBegin on disk → SparesOthers on disk
   spares disk begins tells = at-first (on.start disk) (on.found disk) (on.seen disk) (λ s. MayBegin s.content) (λ s. MayBegin s.content ⊎ BeganAt on.moment on.left_since s disk s.content) (λ s may. inl may) (begins tells)
 
-  -- so do the names of what was attached
-  pub same-names : (dp : Dp) (b : BoardState) (made now : D) (tail : Option Tail) → IsSome tail → IsKept on dp b made now tail → on.names now ≡ on.names made
-  same-names dp b made now tail some k = (has-journal dp b made now tail some k).1.same_names
+  -- what was attached stays, with its first sync and what it was then
+  pub stays-attached : (dp : Dp) (b : BoardState) (made now : D) (tail : Option Tail) → IsSome tail → IsKept on dp b made now tail → IsSome (on.start made) → StaysAttached on made now
+  stays-attached dp b made now tail some k began =
+      let j = (has-journal dp b made now tail some k).1 in
+      record { still_tells = j.still_tells; same_names = j.same_names; same_found = j.same_found; start = same-start dp b made now tail some k began }
 
-  pub still-attaches : (path : List ℕ) (before made now : D) → IsSome (on.start made) → on.names now ≡ on.names made → Attaches on path before made → Attaches on path before now
-  still-attaches path before made now began same attaches = ⊎_elim
-      (λ (names : on.names made ≡ on.names before ++ path ∷ []). inl (same ∙ names))
+  pub still-attaches : (path : List ℕ) (before made now : D) → IsSome (on.start made) → StaysAttached on made now → Attaches on path before made → Attaches on path before now
+  still-attaches path before made now began stays attaches = ⊎_elim
+      (λ (h : (on.names made ≡ on.names before ++ path ∷ []) × SinceAttached on made (λ s. s.content ≡ on.found made)). inl (
+        stays.same_names ∙ h.0,
+        λ tells. still-first (on.start made) (on.start now) (on.found made) (on.seen made) (on.found now) (on.seen now) (λ s. s.content ≡ on.found now) began stays.start
+            (subst (λ f. AtFirstSync (on.start made) (on.found made) (on.seen made) (λ s. s.content ≡ f)) (sym stays.same_found) (h.1 (subst IsTrue stays.still_tells tells))),
+      ))
       (λ none. absurd (let no = subst (λ (o : Option FirstSync). IsSome o) none.1 began in cc))
       attaches
 
@@ -346,12 +353,13 @@ module _ {D : Type 0} (on : Ghosts D) where
         spared = spares now (still-begins dp b made now tail some k began begins)
 
         by-telling : (t : Bool) → on.tells now ≡ t → HasLeftBegun on dp head now
-        by-telling false is = record { written = []; spared = spared; fronts = none-fronts dp k.lawful head.within near; since = λ tells. absurd (let no : true ≡ false = sym tells ∙ is in cc); ends = λ tells. inl refl }
+        by-telling false is = record { written = []; spared = spared; added = none-added dp head.within [] tt; fronts = none-fronts dp k.lawful head.within near; since = λ tells. absurd (let no : true ≡ false = sym tells ∙ is in cc); ends = λ tells. inl refl }
         by-telling true is =
             let w = written dp b made now journal.0 head [] (reads (told-made is)) journal.1 is in
             record {
               written = w.added ++ w.last;
               spared = spared;
+              added = subst (λ z. AreAdded dp z [] (w.added ++ w.last)) w.within w.whole;
               fronts = fronts-begun dp head.within (w.added ++ w.last) (none-sound dp k.lawful head.within near) (subst (λ z. AreAdded dp z [] (w.added ++ w.last)) w.within w.whole);
               since = leaves-begun made now began journal.1.start told-made head (w.added ++ w.last) since w.since;
               ends = λ tells. inr (λ c left. all-but-one head [] w.added w.last w.at_most_one c (w.ends c left));
@@ -372,7 +380,7 @@ module _ {D : Type 0} (on : Ghosts D) where
               λ tells. at-first (on.start now) (on.found now) (on.seen now) (λ s. HasRecords head old s.content × (HasRecords head old s.content → (c : List ℕ) → on.left_since now s.moment c → HasFront head old rs c)) (λ s. HasGoneOn on (MayBeAdded dp head.within old rs) head old rs now s)
                   (λ s has. record {
                     since = has.1 has.0;
-                    follow = λ accepted. fronts-of dp head.within old rs (subst (λ z. AreAdded dp z old rs) w.within w.whole);
+                    follow = λ accepted. let added = subst (λ z. AreAdded dp z old rs) w.within w.whole in (added, fronts-of dp head.within old rs added);
                     ends = inr (λ c left. all-but-one head old w.added w.last w.at_most_one c (w.ends c left));
                   })
                   (both-first (on.start now) (on.found now) (on.seen now) (λ s. HasRecords head old s.content) (λ s. HasRecords head old s.content → (c : List ℕ) → on.left_since now s.moment c → HasFront head old rs c)
@@ -393,6 +401,18 @@ module _ {D : Type 0} (on : Ghosts D) where
   -- the file could not be attached
   pub unattached : (path : List ℕ) (before now : D) → on.names now ≡ on.names before → on.start now ≡ None → Rose (on.faults before) (on.faults now) → Attaches on path before now
   unattached path before now names start rose = inr (names, start, rose)
+
+  -- nothing was done to it yet, or the first sync found it as it was
+  pub attached-yet : (path : List ℕ) (before now : D) → on.names now ≡ on.names before ++ path ∷ [] → on.start now ≡ None → on.found now ≡ on.seen now → Attaches on path before now
+  attached-yet path before now names none same = inl (names, nothing-yet now (λ s. s.content ≡ on.found now) none same)
+
+  pub attached-since : (path : List ℕ) (before mid new : D) → on.names mid ≡ on.names before ++ path ∷ [] → Keeps on.attached on.tells on.names on.found mid new → on.found mid ≡ on.seen mid
+      → (IsTrue (on.tells mid) → AtFirstSync (on.start new) (on.seen mid) (on.seen new) (λ s. s.content ≡ on.seen mid)) → Attaches on path before new
+  attached-since path before mid new names keeps same first = inl (
+    keeps.same_names ∙ names,
+    after-attaching mid new (λ s. s.content ≡ on.found new) keeps.still_tells same keeps.same_found
+        (λ tells. subst (λ f. AtFirstSync (on.start new) (on.seen mid) (on.seen new) (λ s. s.content ≡ f)) (sym (keeps.same_found ∙ same)) (first tells)),
+  )
 
   -- a file in which no journal may begin was left alone
   left-alone : (now : D) (file : List ℕ) → SinceAttached on now (λ s. s.content ≡ file) → SparesOthers on now → (IsTrue (on.tells now) → (2 ≤ length file) × (get_or file 0 0 ≢ 0)) → IsUnwritten on now
@@ -442,13 +462,14 @@ module _ {D : Type 0} (on : Ghosts D) where
   left-begun-alone dp now head laws near spared since = record {
     written = [];
     spared = spared;
+    added = none-added dp head.within [] tt;
     fronts = none-fronts dp laws head.within near;
     since = begun-alone now head since;
     ends = λ tells. inl refl;
   }
 
   pub none-follow : (dp : Dp) (within : ℤ) (old : List RecordView) → MayBeAdded dp within old []
-  none-follow dp within old accepted = fronts-of dp within old [] (record { accepted = accepted; goes_on = tt; sound = λ starts sound. (journals-grow dp old []).last starts within sound })
+  none-follow dp within old accepted = let added = none-added dp within old accepted in (added, fronts-of dp within old [] added)
 
   -- nothing is after the records where nothing was written
   pub none-following : (Follows : Type 0) (now : D) (head : HeadView) (old : List RecordView) → Follows → IsUnwritten on now → SinceAttached on now (λ s. HasRecords head old s.content → HasGoneOn on Follows head old [] now s)
@@ -460,7 +481,13 @@ module _ {D : Type 0} (on : Ghosts D) where
   none-after head old = let t = theory_of head.model in if-ok (t.spelled head.text) (λ numbers. none-follow (t.program numbers) head.within old)
 
   pub left-unwritten : (path : List ℕ) (before now : D) → Attaches on path before now → IsUnwritten on now → LeavesAfterResume on MayFollow path before now
-  left-unwritten path before now attaches unwritten = record { attaches = attaches; written = []; leaves = λ head old. none-following (MayFollow head old []) now head old (none-after head old) unwritten }
+  left-unwritten path before now attaches unwritten = record {
+    attaches = attaches;
+    written = [];
+    leaves = λ head old. none-following (MayFollow head old []) now head old (none-after head old) unwritten;
+    spared = λ tells. at-first (on.start now) (on.found now) (on.seen now) (λ s. BeganAt on.moment on.left_since s now s.content) (λ s. IsErr (journal_of s.content) → BeganAt on.moment on.left_since s now s.content)
+        (λ s left none. left) (unwritten tells);
+  }
 
   -- whatever journal the first sync found, it is the one that was gone on from
   pub left-resumed : (path : List ℕ) (before now : D) (head : HeadView) (old rs : List RecordView) → Attaches on path before now → IsFound head old now → SinceAttached on now (λ s. HasGoneOn on (MayFollow head old rs) head old rs now s) → LeavesAfterResume on MayFollow path before now
@@ -472,4 +499,6 @@ module _ {D : Type 0} (on : Ghosts D) where
         (λ s both has. let same = one-journal other head others old s.content has both.0 in
         subst (λ os. HasGoneOn on (MayFollow other os rs) other os rs now s) same.1 (subst (λ h. HasGoneOn on (MayFollow h old rs) h old rs now s) same.0 both.1))
         (both-first (on.start now) (on.found now) (on.seen now) (λ s. HasRecords head old s.content) (λ s. HasGoneOn on (MayFollow head old rs) head old rs now s) (found tells) (gone tells));
+    spared = λ tells. at-first (on.start now) (on.found now) (on.seen now) (λ s. HasRecords head old s.content) (λ s. IsErr (journal_of s.content) → BeganAt on.moment on.left_since s now s.content)
+        (λ s has none. absurd (is-read head old s.content has none)) (found tells);
   }

@@ -61,10 +61,17 @@ module _ {D : Type 0} (on : Ghosts D) where
   abbrev pub SparesOthers : D → Type 0
   SparesOthers disk = SinceAttached disk (λ s. MayBegin s.content ⊎ BeganAt on.moment on.left_since s disk s.content)
 
-  -- the named file was attached, and no other; or the disk failed at that, and none was
+  -- the named file was attached, and no other, and the first sync found it as it was then; or the disk failed at that, and none was
   abbrev pub Attaches : List ℕ → D → D → Type 0
-  Attaches path before now = (on.names now ≡ on.names before ++ path ∷ [])
+  Attaches path before now = ((on.names now ≡ on.names before ++ path ∷ []) × SinceAttached now (λ s. s.content ≡ on.found now))
       ⊎ ((on.names now ≡ on.names before) × (on.start now ≡ None) × Rose (on.faults before) (on.faults now))
+
+  -- what was attached stays, with its first sync and what it was then
+  pub record StaysAttached (before now : D) : Type 0 where
+    pub still_tells : on.tells now ≡ on.tells before
+    pub same_names : on.names now ≡ on.names before
+    pub same_found : on.found now ≡ on.found before
+    pub start : on.start now ≡ on.start before
 
   -- bytes were read, which are what the first sync found where the disk tells them: what was opened is what they read as, its first record stands after
   -- their head, and an error is their first cause, told only after the first sync
@@ -116,10 +123,11 @@ module _ {D : Type 0} (on : Ghosts D) where
   IsRefusedToBegin head before now _ = ⊥
 
   -- what the first sync found is as it was where no journal may begin in it; and else a crash at any moment since then has left no journal or this head
-  -- with a front of some records; each front of them is accepted and sound; and at the end it leaves all of them, or all but the last
+  -- with a front of some records, which a search adds itself; each front of them is accepted and sound; and at the end it leaves all of them, or all but the last
   pub record HasLeftBegun (dp : Dp) (head : HeadView) (now : D) : Type 0 where
     pub written : List RecordView
     pub spared : SparesOthers now
+    pub added : AreAdded dp head.within [] written
     pub fronts : AreFrontsSound dp head.within written
     pub since : LeavesBegun head written now
     pub ends : IsTrue (on.tells now) → (written ≡ []) ⊎ ((c : List ℕ) → on.may_leave now c → HasAllButOne head [] written c)

@@ -1,5 +1,5 @@
 -- A search that begins a journal.
-use Rattle.std.proofs.Common.{◌≡◌, ℕ, ℤ, List, [], true, Option, IsSome, Result, Ok, Err, IfOk, ap, subst, sym, ◌∙◌}
+use Rattle.std.proofs.Common.{◌≡◌, ℕ, ℤ, List, [], true, Option, IsSome, Result, Ok, Err, IfOk, subst, sym}
 use Rattle.std.specs.declared.alloc.AllocError.{AllocError}
 use Rattle.disk.specs.declared.disk.Disk.{Ghosts}
 use Rattle.disk.specs.Disk.{FirstSync}
@@ -16,12 +16,12 @@ use Rattle.solver_report.specs.declared.answer.Answer.TheVariants as answers
 use Rattle.solver_report.specs.declared.answer.Counts.{Counts}
 use Rattle.solver_report.specs.declared.answer.Outcome.{Outcome}
 use Rattle.answers.specs.Answers.{Ends, HasSearchedFromStart}
-use Rattle.answers.specs.Journals.{HasKept, HasLeftBegun, LeavesBegun, MightBegin}
+use Rattle.answers.specs.Journals.{HasKept, HasLeftBegun, LeavesBegun, MightBegin, StaysAttached}
 use Rattle.answers.specs.Kept.{SolvesKept}
 use Rattle.answers.specs.Outcomes.{HasSearched}
 use Rattle.answers.specs.Over.{IsOver}
 use Rattle.solver_words.specs.declared.job.JobSettings.{JobSettings}
-use Rattle.answers.proofs.Journaled.{ends-begun, left-begun, same-names, same-start, still-begins}
+use Rattle.answers.proofs.Journaled.{ends-begun, left-begun, same-start, stays-attached, still-begins}
 use Rattle.solver_cli.specs.Journals.{EndsKept, HasBegunOn}
 use Rattle.solver_cli.specs.Searches.{IsAnswerTo, IsKeptOn, KeepsSome}
 use Rattle.solver_cli.proofs.Told.{Told, if-told, told-ends}
@@ -53,8 +53,8 @@ module _ {D : Type 0} (on : Ghosts D) (dp : Dp) (own : List ℕ → Option ℤ) 
     pub same-begun : (now : D) (b : BoardState) → IsKeptOn on dp true made now b → on.start now ≡ on.start made
     same-begun now b k = same-start on dp b made now k.tail k.same k.kept ready.synced
 
-    pub same-attached : (now : D) (b : BoardState) → IsKeptOn on dp true made now b → on.names now ≡ on.names made
-    same-attached now b k = same-names on dp b made now k.tail k.same k.kept
+    pub same-attached : (now : D) (b : BoardState) → IsKeptOn on dp true made now b → StaysAttached on made now
+    same-attached now b k = stays-attached on dp b made now k.tail k.same k.kept ready.synced
 
     might-begin : (now : D) (b : BoardState) → IsKeptOn on dp true made now b → MightBegin on now
     might-begin now b k = still-begins on dp b made now k.tail k.same k.kept ready.synced ready.begins

@@ -57,6 +57,7 @@ module _ {D : Type 0} (on : Ghosts D) where
     pub start : on.start now ≡ on.start before
     pub still_tells : on.tells now ≡ on.tells before
     pub same_names : on.names now ≡ on.names before
+    pub same_found : on.found now ≡ on.found before
 
 -- a journal is left as it was where it, the width or an offer is refused
 abbrev pub TouchesNothing : {D : Type 0} → D → D → Answer → Type 0

@@ -1,4 +1,4 @@
-use Rattle.std.proofs.Common.{◌≡◌, ◌⊎◌, ℕ, List, [], inl, sym, ◌∙◌, ap, subst, IsTrue, w64, to_z, of_z, rules}
+use Rattle.std.proofs.Common.{◌≡◌, ◌⊎◌, ℕ, List, [], sym, ◌∙◌, ap, subst, IsTrue, w64, to_z, of_z, rules}
 use Rattle.std.specs.Prelude.{IfErr, Err}
 use Rattle.std.proofs.lemmas.Result.{err_from_is_err_and}
 use Rattle.disk.specs.Counts.{Rose}
@@ -8,7 +8,7 @@ use Rattle.journal_file.specs.declared.error.JournalError.{JournalError}
 use Rattle.answers.specs.Journals.{HasBegun, IsRefusedToBegin}
 use Rattle.answers.specs.Kept.{head_of}
 use Rattle.answers.proofs.Heads.{passes, same-head}
-use Rattle.answers.proofs.Journaled.{after-attaching, at-first, begun-alone, nothing-yet, on-ok, refused-to-begin, unattached}
+use Rattle.answers.proofs.Journaled.{after-attaching, at-first, attached-since, attached-yet, begun-alone, nothing-yet, on-ok, refused-to-begin, unattached}
 use Rattle.answers.proofs.journaling.begin_journal.Goals as goal
 
 pub returns-in_err-attach-clause-attaches : goal.returns-in_err-attach-clause-attaches
@@ -29,7 +29,7 @@ returns-in_err-attach-clause-refused g c =
     (c.in_err-attach.ensures.faults.1, nothing-yet g.D.Disk now (λ s. MayBegin s.content → (x : List ℕ) → g.D.Disk.left_since now s.moment x → HasBegun head [] x) c.attach.ensures.start c.attach.ensures.found)
 
 pub returns-in_err-text-clause-attaches : goal.returns-in_err-text-clause-attaches
-returns-in_err-text-clause-attaches g c = inl c.in_ok-attach.ensures.names
+returns-in_err-text-clause-attaches g c = attached-yet g.D.Disk c.args.path.now c.args.disk.now c.attach.new.self c.in_ok-attach.ensures.names c.attach.ensures.start c.attach.ensures.found
 
 pub returns-in_err-text-clause-since : goal.returns-in_err-text-clause-since
 returns-in_err-text-clause-since g c = nothing-yet g.D.Disk c.attach.new.self _ c.attach.ensures.start c.attach.ensures.found
@@ -38,7 +38,11 @@ pub returns-in_err-text-clause-spared : goal.returns-in_err-text-clause-spared
 returns-in_err-text-clause-spared g c = nothing-yet g.D.Disk c.attach.new.self _ c.attach.ensures.start c.attach.ensures.found
 
 pub returns-clause-attaches : goal.returns-clause-attaches
-returns-clause-attaches g c = inl (c.begin.ensures.keeps.same_names ∙ c.in_ok-attach.ensures.names)
+returns-clause-attaches g c =
+    let mid = c.attach.new.self in
+    let new = c.begin.new.disk in
+    attached-since g.D.Disk c.args.path.now c.args.disk.now mid new c.in_ok-attach.ensures.names c.begin.ensures.keeps c.attach.ensures.found
+    (λ tells. at-first (g.D.Disk.start new) (g.D.Disk.seen mid) (g.D.Disk.seen new) _ _ (λ s x. x.0) (c.begin.ensures.since tells c.attach.ensures.start))
 
 pub returns-clause-since : goal.returns-clause-since
 returns-clause-since g c =

@@ -1,4 +1,4 @@
-use Rattle.std.proofs.Common.{◌≡◌, [], inl, sym, ◌∙◌, ap, subst, IsTrue}
+use Rattle.std.proofs.Common.{◌≡◌, [], sym, ◌∙◌, ap, subst, IsTrue}
 use Rattle.std.specs.Prelude.{Err, None, IsSome}
 use Rattle.std.proofs.lemmas.Result.{err_from_is_err_and}
 use Rattle.journal_bytes.specs.Journal.{journal_of}
@@ -6,7 +6,7 @@ use Rattle.journal_file.specs.Beginning.{BeganAt}
 use Rattle.journal_file.specs.declared.error.JournalError.{JournalError}
 use Rattle.answers.specs.Journals.{HasOpened}
 use Rattle.answers.proofs.Heads.{head-distance, heads-near}
-use Rattle.answers.proofs.Journaled.{after-attaching, at-first, began-fresh, nothing-yet, opened-since, unattached}
+use Rattle.answers.proofs.Journaled.{after-attaching, at-first, attached-since, began-fresh, nothing-yet, opened-since, unattached}
 use Rattle.answers.proofs.journaling.open_journal.Goals as goal
 
 pub returns-in_err-attach-clause-attaches : goal.returns-in_err-attach-clause-attaches
@@ -23,7 +23,11 @@ returns-in_err-attach-clause-opened g c =
     (record { file = []; is_file = nothing-yet g.D.Disk now (λ s. s.content ≡ []) c.attach.ensures.start c.attach.ensures.found; opens = tt; first = tt; began = λ refusal. absurd refusal })
 
 pub returns-clause-attaches : goal.returns-clause-attaches
-returns-clause-attaches g c = inl (c.reopen.ensures.keeps.same_names ∙ c.in_ok-attach.ensures.names)
+returns-clause-attaches g c =
+    let mid = c.attach.new.self in
+    let new = c.reopen.new.disk in
+    attached-since g.D.Disk c.args.path.now c.args.disk.now mid new c.in_ok-attach.ensures.names c.reopen.ensures.keeps c.attach.ensures.found
+    (λ tells. at-first (g.D.Disk.start new) (g.D.Disk.seen mid) (g.D.Disk.seen new) _ _ (λ s b. b.content) (c.reopen.ensures.start tells c.attach.ensures.start))
 
 pub returns-clause-unwritten : goal.returns-clause-unwritten
 returns-clause-unwritten g c =

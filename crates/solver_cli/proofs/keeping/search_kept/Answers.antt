@@ -21,7 +21,7 @@ returns-in-Ok-clause-solves g c =
 
 pub returns-in-Ok-clause-left : goal.returns-in-Ok-clause-left
 returns-in-Ok-clause-left g c =
-    (still-attaches g.D.Disk c.args.path.now c.args.disk c.begin_journal.new.disk c.search_begun.result.1 c.in-Ok.ensures.began c.search_begun.ensures.names c.begin_journal.ensures.attaches, c.search_begun.ensures.left)
+    (still-attaches g.D.Disk c.args.path.now c.args.disk c.begin_journal.new.disk c.search_begun.result.1 c.in-Ok.ensures.began c.search_begun.ensures.attached c.begin_journal.ensures.attaches, c.search_begun.ensures.left)
 
 pub returns-in-Err-clause-solves : goal.returns-in-Err-clause-solves
 returns-in-Err-clause-solves g c =
