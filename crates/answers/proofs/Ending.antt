@@ -1,16 +1,13 @@
 -- What is told of a search is what it may answer.
-use Rattle.std.proofs.Common.{◌≡◌, ◌&&◌, Bool, true, false, Option, Some, None, is_some, sym, subst, arith}
+use Rattle.std.proofs.Common.{◌≡◌, ◌&&◌, true, false, Option, is_some, sym, subst}
 use Rattle.dp_model.specs.Dp.{Dp}
-use Rattle.board_laws.specs.Board.{BoardState}
-use Rattle.board_laws.specs.GoodBoard.{IsBoard}
 use Rattle.solver_report.specs.Report.{is_final}
 use Rattle.solver_report.specs.declared.answer.Answer.{Answer}
 use Rattle.solver_report.specs.declared.answer.Answer.TheVariants as answers
 use Rattle.solver_report.specs.declared.answer.Counts.{Counts}
 use Rattle.solver_report.specs.declared.answer.Outcome.{Outcome}
 use Rattle.solver_words.specs.declared.job.JobSettings.{JobSettings}
-use Rattle.answers.specs.Answers.{AreSized, Ends, IsReport}
-use Rattle.answers.specs.Outcomes.{IsCounted}
+use Rattle.answers.specs.Answers.{Ends, IsReport}
 
 -- the answer that tells of a search is one that the search may give
 pub report-ends : (dp : Dp) (search : JobSettings) (Has : Outcome → Option Counts → Type 0) (outcome : Outcome) (counts : Option Counts) (answer : Answer)
@@ -36,9 +33,3 @@ report-ends dp search Has outcome counts (answers.Words e) h has = absurd h
 report-ends dp search Has outcome counts (answers.Journal e) h has = absurd h
 report-ends dp search Has outcome counts answers.ReadFault h has = absurd h
 report-ends dp search Has outcome counts answers.OutOfMemory h has = absurd h
-
--- the counts of a board have 64 bits
-pub counted-sized : (dp : Dp) (board : BoardState) (stats : Bool) (counts : Option Counts) → IsBoard dp board → IsCounted board stats counts → AreSized counts
-counted-sized dp board stats None kept h = tt
-counted-sized dp board true (Some counts) kept h = let out = kept.out in let taken = h.taken in let finished = h.finished in let few = h.sized in (few, omega arith)
-counted-sized dp board false (Some counts) kept h = absurd h

@@ -12,7 +12,6 @@ use Rattle.board_laws.specs.declared.settings.Settings.{Settings}
 use Rattle.board_laws.specs.Board.{AreSettings, BoardState, full_slots}
 use Rattle.board_laws.specs.GoodBoard.{IsGood}
 use Rattle.board_laws.specs.Starts.{whole_search}
-use Rattle.board_laws.specs.Steps.{first_board}
 use Rattle.board_laws.specs.Taking.{is_budget_up}
 use Rattle.journal_bytes.specs.declared.tail.Tail.{Tail}
 use Rattle.journal_bytes.specs.declared.head.Head.{Head}
@@ -165,13 +164,7 @@ module _ {D : Type 0} (on : Ghosts D) where
   is-found disk r opened tells = at-first (on.start disk) (on.found disk) (on.seen disk) (λ s. s.content ≡ opened.file) (λ s. HasRecords (head_view r.2.version r.0) r.1.records s.content)
       (λ s same. subst (HasRecords (head_view r.2.version r.0) r.1.records) (sym same) (r.2, opened.opens)) (opened.is_file tells)
 
-  -- a board may be kept in a journal that was begun for it
-  pub made-begun : (dp : Dp) (settings : Settings) (b : BoardState) (disk : D) (tail : Tail) (head : HeadView) → IsReadyWith head [] disk tail → b.settings.within ≡ head.within → b ≡ first_board dp settings → MayKeep on dp b disk (Some tail)
-  made-begun dp settings b disk tail head ready near first =
-      let own = first ∙ ap (λ (x : BoardState). first_board dp x.settings) (sym first) in
-      (ready.0, λ tells. let here = ready.1 tells in record { is_open = here.0; head = head; records = []; reads = here.1; within = near; made = inl (refl, own) })
-
-  -- and in one of whose records it was made
+  -- a board may be kept in a journal of whose records it was made
   pub made-resumed : (dp : Dp) (settings : Settings) (b : BoardState) (disk : D) (tail : Tail) (head : HeadView) (records : List RecordView) → IsReadyWith head records disk tail → b.settings.within ≡ head.within → AreAccepted dp records → b ≡ restored_from settings (replay_of dp records)
       → MayKeep on dp b disk (Some tail)
   made-resumed dp settings b disk tail head records ready near accepted restored =

@@ -13,6 +13,5 @@ pub mod Journaled
 pub mod Opened
 pub mod Splits
 pub mod Texts
-pub mod Offers
 pub mod Distances
 pub mod ReportsJoined

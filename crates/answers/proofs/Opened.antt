@@ -1,4 +1,4 @@
--- An answer for a file that is only read.
+-- An answer for a file that is opened.
 use Rattle.std.proofs.Common.{◌≡◌, ◌⊎◌, inl, inr, ℕ, List, [], ◌∷◌, Ok, Err, refl, sym, subst, ap}
 use Rattle.std.specs.Prelude.{IsSome, MatchResult}
 use Rattle.disk.specs.declared.disk.Disk.{Ghosts}
@@ -53,7 +53,7 @@ module _ {D : Type 0} (on : Ghosts D) (For : ForJournal) (before now : D) where
     for-disk never answers.OutOfMemory h = tt
     for-disk never answer h = for-file answer h
 
-    for-opened : (For (journal_view r) r.1.first (answers.Journal errors.Disk) → ⊥) → (answer : Answer) → (answer ≡ answers.OutOfMemory) ⊎ For (journal_view r) r.1.first answer → IsForDisk on For before now answer
+    pub for-opened : (For (journal_view r) r.1.first (answers.Journal errors.Disk) → ⊥) → (answer : Answer) → (answer ≡ answers.OutOfMemory) ⊎ For (journal_view r) r.1.first answer → IsForDisk on For before now answer
     for-opened never answer (inl memory) = subst (IsForDisk on For before now) (sym memory) tt
     for-opened never answer (inr h) = for-disk never answer h
 
@@ -68,7 +68,7 @@ module _ {D : Type 0} (on : Ghosts D) (For : ForJournal) (before now : D) where
         (ap (λ (x : JournalError). answers.Journal x) (sym same));
   }
 
-  for-unopened : (e : JournalError) → HasOpened on now (Err e) → (e ≡ errors.Disk → Rose (on.faults before) (on.faults now)) → IsForDisk on For before now (answers.Journal e)
+  pub for-unopened : (e : JournalError) → HasOpened on now (Err e) → (e ≡ errors.Disk → Rose (on.faults before) (on.faults now)) → IsForDisk on For before now (answers.Journal e)
   for-unopened errors.Disk opened rose = rose refl
   for-unopened errors.NotBegun opened rose = was-refused errors.NotBegun bytes.NotBegun opened tt opened.opens refl
   for-unopened errors.Exists opened rose = absurd opened.opens

@@ -1,5 +1,5 @@
 -- What the reports of all parts of a stopped search are joined to.
-use Rattle.std.proofs.Common.{◌≡◌, ◌⊎◌, inl, inr, ℕ, ◌<◌, ℤ, List, [], ◌∷◌, length, Option, Some, None, Result, Ok, Err, true, is_some, false, refl, sym, ◌∙◌, ap, subst, arith}
+use Rattle.std.proofs.Common.{◌≡◌, inl, inr, ℕ, ◌<◌, ℤ, List, [], ◌∷◌, length, Option, Some, None, Result, Ok, Err, true, is_some, refl, sym, ◌∙◌, ap, subst, arith}
 use Rattle.std.specs.Prelude.{IfErr, IfOk, MatchResult}
 use Rattle.disk.specs.declared.disk.Disk.{Ghosts}
 use Rattle.bound_cover.specs.Exploring.{HoldsAll}
@@ -13,11 +13,8 @@ use Rattle.board_laws.specs.Starts.{whole_search}
 use Rattle.frontier_parts.specs.Searches.{HoldsFrom}
 use Rattle.frontier_parts.proofs.Searching.{held_shown, values_settle}
 use Rattle.journal_bytes.specs.Bodies.{RecordView}
-use Rattle.journal_bytes.specs.Journal.{JournalView, journal_of}
+use Rattle.journal_bytes.specs.Journal.{JournalView}
 use Rattle.journal_bytes.specs.declared.head.Part.{Part}
-use Rattle.journal_bytes.specs.declared.refusal.Refusal.{Refusal}
-use Rattle.journal_file.specs.Refusing.{error_of}
-use Rattle.journal_file.specs.declared.error.JournalError.{JournalError}
 use Rattle.journal_file.specs.declared.error.JournalError.TheVariants as errors
 use Rattle.journal_replay.specs.Accepting.{AreAccepted}
 use Rattle.journal_replay.specs.Sound.{AreSoundOf}
@@ -29,16 +26,16 @@ use Rattle.solver_report.specs.declared.answer.Answer.{Answer}
 use Rattle.solver_report.specs.declared.answer.Answer.TheVariants as answers
 use Rattle.tokens.specs.declared.instance_error.InstanceError.{InstanceError}
 use Rattle.answers.specs.Covers.{cover_limit}
-use Rattle.answers.specs.Ended.{IsInputAnswer, LeavesAfterReports, Readings, WasRead}
+use Rattle.answers.specs.Ended.{LeavesAfterReports, Readings, WasRead}
 use Rattle.answers.specs.Journals.{Attaches, IsUnwritten}
-use Rattle.answers.specs.Opened.{IsForDisk, IsForFile, ReadsNamed}
+use Rattle.answers.specs.Kept.{starts_for}
+use Rattle.answers.specs.Opened.{ReadsNamed}
 use Rattle.answers.specs.Outcomes.{IsTrueOf}
 use Rattle.answers.specs.PartSearches.{AreSettledWithin}
 use Rattle.answers.specs.Offers.{RefusesReport, parts_told}
-use Rattle.answers.specs.ReportsJoined.{AreAllHeld, DoesNotJoin, HasBest, HasJoined, IsTrueJoined, JoinsFrom, JoinsIn, JoinsJournal, JoinsReports, LeavesRead, RefusesReports, TellsJoined, joined_answer, starts_for, whole_outcome}
+use Rattle.answers.specs.ReportsJoined.{AreAllHeld, DoesNotJoin, HasBest, HasJoined, IsTrueJoined, JoinsFrom, JoinsIn, JoinsJournal, JoinsReports, LeavesRead, RefusesReports, TellsJoined, joined_answer, whole_outcome}
 use Rattle.answers.specs.Splits.{idle_settings, stopped_board}
 use Rattle.answers.proofs.Conclusions.{found_holds, reach_infeasible, reach_proved}
-use Rattle.answers.proofs.Texts.{whole-or-memory}
 use Rattle.answers.proofs.Opened.{refused-not-disk}
 use Rattle.answers.proofs.PartSearches.{in_own_words}
 use Rattle.answers.proofs.Splits.{idle-are, stopped-is}
@@ -112,41 +109,6 @@ module _ (dp : Dp) (laws : IsLawful dp) (own : List ℕ → Option ℤ) (agrees 
       go None is absent = cc
       go (Some starts) is there = told-from starts is best h
 
-  -- why there is none
-  pub joins-refused : is_some (starts_for j.head.part j.records) ≡ true → (answer : Answer) → DoesNotJoin dp j.head.within j.tail.digest first j.records rs answer → JoinsIn dp own (starts_for j.head.part j.records) rs j first answer
-  joins-refused there answer h = go (starts_for j.head.part j.records) there answer h
-    where
-      go : (o : Option (List (List ℕ))) → is_some o ≡ true → (answer : Answer) → DoesNotJoin dp j.head.within j.tail.digest first j.records rs answer → JoinsIn dp own o rs j first answer
-      go None absent answer h = cc
-      go (Some starts) there (answers.Journal e) h = h
-      go (Some starts) there (answers.ReportsRefused refusal) h = h
-      go (Some starts) there answers.OutOfMemory h = tt
-      go (Some starts) there answer h = absurd h
-
--- a journal without start prefixes
-pub joins-unstarted : (dp : Dp) (own : List ℕ → Option ℤ) (rs : List SettledView) (j : JournalView) (first : ℕ) → is_some (starts_for j.head.part j.records) ≡ false
-    → JoinsIn dp own (starts_for j.head.part j.records) rs j first (answers.Journal (errors.Malformed first))
-joins-unstarted dp own rs j first none = go (starts_for j.head.part j.records) none
-  where
-    go : (o : Option (List (List ℕ))) → is_some o ≡ false → JoinsIn dp own o rs j first (answers.Journal (errors.Malformed first))
-    go None absent = refl
-    go (Some starts) absent = cc
-
--- ---- no report of a fault of the input
-
-module _ (rs : List SettledView) (j : JournalView) (first : ℕ) (answer : Answer) (no-journal : (e : JournalError) → answer ≡ answers.Journal e → ⊥) (no-join : (dp : Dp) (own : List ℕ → Option ℤ) (starts : List (List ℕ)) → JoinsFrom dp own starts rs j first answer → ⊥) where
-  not-in : (dp : Dp) (own : List ℕ → Option ℤ) (o : Option (List (List ℕ))) → JoinsIn dp own o rs j first answer → ⊥
-  not-in dp own None same = no-journal (errors.Malformed first) same
-  not-in dp own (Some starts) h = no-join dp own starts h
-
-  not-joined : JoinsJournal rs j first answer → ⊥
-  not-joined h = never ((theory_of j.head.model).spelled j.head.text) h
-    where
-      never : {E : Type 0} (r : Result (List ℤ) E) → MatchResult r (λ numbers. JoinsIn ((theory_of j.head.model).program numbers) ((theory_of j.head.model).own_value numbers) (starts_for j.head.part j.records) rs j first answer)
-          (λ e. answer ≡ answers.Journal (errors.Malformed 0)) → ⊥
-      never (Ok numbers) h = not-in _ _ (starts_for j.head.part j.records) h
-      never (Err e) same = no-journal (errors.Malformed 0) same
-
 -- a journal is not refused for the disk
 pub joins-not-disk : (rs : List SettledView) (j : JournalView) (first : ℕ) → JoinsJournal rs j first (answers.Journal errors.Disk) → ⊥
 joins-not-disk rs j first h = never ((theory_of j.head.model).spelled j.head.text) h
@@ -183,32 +145,6 @@ module _ (dp dpa dpb : Dp) (sa : dpa ≡ dp) (sb : dpb ≡ dp) (within w : ℤ) 
 -- ---- the input
 
 module _ {D : Type 0} (on : Ghosts D) (path : List ℕ) (before now : D) where
-  -- an answer that neither the text of reports, nor a file, nor a journal is given
-  never-told : (answer : Answer) → ((e : InstanceError) → RefusesReport e answer → ⊥) → ((e : JournalError) → answer ≡ answers.Journal e → ⊥)
-      → ((dp : Dp) (own : List ℕ → Option ℤ) (starts : List (List ℕ)) (rs : List SettledView) (j : JournalView) (first : ℕ) → JoinsFrom dp own starts rs j first answer → ⊥)
-      → ((rs : List SettledView) → IsForDisk on (JoinsJournal rs) before now answer → IsForFile on (JoinsJournal rs) now answer)
-      → (bytes : List ℕ) → JoinsReports on path before now bytes answer → ⊥
-  never-told answer no-text no-journal no-join in-file bytes h = text (reports_of bytes) h
-    where
-      file : (rs : List SettledView) (r : Result JournalView Refusal) (first : ℕ) → MatchResult r (λ j. JoinsJournal rs j first answer) (λ refusal. answer ≡ answers.Journal (error_of refusal)) → ⊥
-      file rs (Ok j) first h = not-joined rs j first answer no-journal (λ dp own starts h. no-join dp own starts rs j first h) h
-      file rs (Err refusal) first same = no-journal (error_of refusal) same
-
-      text : (r : Result (List SettledView) InstanceError) → MatchResult r (λ rs. ReadsNamed on (JoinsJournal rs) path before now answer) (λ e. RefusesReport e answer × (now ≡ before)) → ⊥
-      text (Ok rs) h = let found : IsForFile on (JoinsJournal rs) now answer = in-file rs h.right in file rs (journal_of found.file) _ found.right
-      text (Err e) h = no-text e h.0
-
-  no-fault : (bytes : List ℕ) → JoinsReports on path before now bytes answers.ReadFault → ⊥
-  no-fault = never-told answers.ReadFault (λ e h. h) (λ e same. cc) (λ dp own starts rs j first h. h) (λ rs h. h)
-
-  no-length : (bytes : List ℕ) → JoinsReports on path before now bytes answers.TooLong → ⊥
-  no-length = never-told answers.TooLong (λ e h. h) (λ e same. cc) (λ dp own starts rs j first h. h) (λ rs h. h)
-
-  -- what is answered to a text is answered to the input
-  pub input-told : (r : Readings) (bytes : List ℕ) (answer : Answer) → WasRead cover_limit r bytes → (answer ≡ answers.OutOfMemory) ⊎ JoinsReports on path before now bytes answer
-      → IsInputAnswer cover_limit (JoinsReports on path before now) r answer
-  input-told r bytes answer read h = whole-or-memory cover_limit (JoinsReports on path before now) r bytes answer (no-fault bytes) (no-length bytes) read h
-
   -- reports that were read
   pub text-joined : (bytes : List ℕ) (rs : List SettledView) → reports_of bytes ≡ Ok rs → (answer : Answer) → ReadsNamed on (JoinsJournal rs) path before now answer → JoinsReports on path before now bytes answer
   text-joined bytes rs read answer h = subst (λ (r : Result (List SettledView) InstanceError). MatchResult r (λ rs. ReadsNamed on (JoinsJournal rs) path before now answer) (λ e. RefusesReport e answer × (now ≡ before))) (sym read) h

@@ -1,5 +1,5 @@
 -- What is right for a text is right for an input that was read as this text.
-use Rattle.std.proofs.Common.{◌≡◌, ◌⊎◌, inl, inr, ℕ, List, sym, subst}
+use Rattle.std.proofs.Common.{ℕ, List}
 use Rattle.solver_report.specs.declared.answer.Answer.{Answer}
 use Rattle.solver_report.specs.declared.answer.Answer.TheVariants as answers
 use Rattle.answers.specs.Ended.{IsInputAnswer, Readings, WasRead}
@@ -26,9 +26,3 @@ whole limit For r bytes (answers.Words e) sound short read h = record { bytes = 
 whole limit For r bytes (answers.Journal e) sound short read h = record { bytes = bytes; read = read; replies = h }
 whole limit For r bytes answers.ReadFault sound short read h = absurd (sound h)
 whole limit For r bytes answers.OutOfMemory sound short read h = read.sound
-
--- or memory ran out for it
-pub whole-or-memory : (limit : ℕ) (For : List ℕ → Answer → Type 0) (r : Readings) (bytes : List ℕ) (answer : Answer) → (For bytes answers.ReadFault → ⊥) → (For bytes answers.TooLong → ⊥)
-    → WasRead limit r bytes → (answer ≡ answers.OutOfMemory) ⊎ For bytes answer → IsInputAnswer limit For r answer
-whole-or-memory limit For r bytes answer sound short read (inl memory) = subst (IsInputAnswer limit For r) (sym memory) read.sound
-whole-or-memory limit For r bytes answer sound short read (inr h) = whole limit For r bytes answer sound short read h

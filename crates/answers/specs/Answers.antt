@@ -4,7 +4,6 @@ use Rattle.dp_model.specs.Dp.{Dp}
 use Rattle.dp_model.specs.declared.cut_kind.CutKind.TheVariants.{LastExactLayer}
 use Rattle.problem_names.specs.declared.ModelName.{ModelName}
 use Rattle.problem_names.specs.declared.part.PartNumber.{PartNumber}
-use Rattle.parts.specs.Part.{part_program}
 use Rattle.problem_theory.specs.Theory.{Theory, drawn}
 use Rattle.board_laws.specs.Board.{BoardState}
 use Rattle.board_laws.specs.Steps.{first_board}
@@ -18,9 +17,9 @@ use Rattle.solver_report.specs.declared.answer.Answer.{Answer}
 use Rattle.solver_report.specs.declared.answer.Answer.TheVariants as answers
 use Rattle.solver_words.specs.declared.job.JobSettings.{JobSettings}
 use Rattle.answers.specs.Checks.{RefusesInstance}
-use Rattle.answers.specs.Covers.{IsCovered, IsCoveredIn}
+use Rattle.answers.specs.Covers.{IsCoveredIn}
 use Rattle.answers.specs.Outcomes.{HasSearched}
-use Rattle.answers.specs.Parts.{part_own}
+use Rattle.answers.specs.Parts.{own_in, program_in}
 use Rattle.answers.specs.Widths.{IsRefusedWidth}
 use Rattle.solver_report.specs.Report.{is_final}
 
@@ -96,16 +95,10 @@ Draws t n seed solved answer = DrawsSome t solved (drawn t.drawing n seed) answe
 abbrev pub Replies : Theory → (List ℤ → Answer → Type 0) → List ℕ → Answer → Type 0
 Replies t IsFor bytes answer = MatchResult (t.spelled bytes) (λ numbers. IsFor numbers answer) (λ e. RefusesInstance e answer)
 
--- where a search is asked for: how it ends, and a cover after a report is accepted by `check`
-abbrev pub SolvesText : Theory → ModelName → JobSettings → List ℕ → Answer → Type 0
-SolvesText t name search bytes answer =
-    Replies t (λ numbers found. Solves (t.program numbers) (t.own_value numbers) search found × IsCovered name (t.canonical numbers) found) bytes answer
-
--- where a search of a part is asked for: how that of the part ends, and a cover after a report is accepted as that of the part
-abbrev pub SolvesPart : Theory → ModelName → PartNumber → JobSettings → List ℕ → Answer → Type 0
-SolvesPart t name part search bytes answer =
-    Replies t (λ numbers found. Solves (part_program (t.program numbers) part.index part.of) (part_own part.index part.of (t.own_value numbers)) search found
-    × IsCoveredIn name (Some part) (t.canonical numbers) found) bytes answer
+-- where a search is asked for, of an instance or of a part of it: how that ends, and a cover after a report is accepted by `check`, as that of the part
+abbrev pub SolvesText : Theory → ModelName → Option PartNumber → JobSettings → List ℕ → Answer → Type 0
+SolvesText t name part search bytes answer =
+    Replies t (λ numbers found. Solves (program_in part (t.program numbers)) (own_in part (t.own_value numbers)) search found × IsCoveredIn name part (t.canonical numbers) found) bytes answer
 
 -- where a digest is asked for
 abbrev pub DigestsText : Theory → List ℕ → Answer → Type 0

@@ -13,7 +13,7 @@ use Rattle.solver_words.specs.Words.{JobView, solve, resume, split, check, join,
 use Rattle.solver_report.specs.declared.answer.Answer.{Answer}
 use Rattle.solver_report.specs.declared.answer.Answer.TheVariants as answers
 use Rattle.solver_report.specs.Report.{report, status_of}
-use Rattle.answers.specs.Answers.{DigestsText, Draws, SolvesPart, SolvesText}
+use Rattle.answers.specs.Answers.{DigestsText, Draws, SolvesText}
 use Rattle.answers.specs.Checks.{IsChecked}
 use Rattle.answers.specs.Covers.{cover_limit}
 use Rattle.answers.specs.Joins.{IsJoined}
@@ -107,9 +107,7 @@ module _ {D : Type 0} (on : Ghosts D) where
   -- what a job may answer; nothing is read for an instance that is drawn and for a journal, and the disk is as it was where no journal is kept; no search of
   -- a part keeps one
   abbrev pub IsJobAnswer : JobView → Readings → D → D → Answer → Type 0
-  IsJobAnswer (solve name search None None) r before now answer = IsInputAnswer text_limit (SolvesText (theory_of name) name search) r answer × (now ≡ before)
-  IsJobAnswer (solve name search None (Some part)) r before now answer =
-      IsInputAnswer text_limit (SolvesPart (theory_of name) name part search) r answer × (now ≡ before)
+  IsJobAnswer (solve name search None part) r before now answer = IsInputAnswer text_limit (SolvesText (theory_of name) name part search) r answer × (now ≡ before)
   IsJobAnswer (solve name given (Some path) (Some part)) r before now answer = ⊥
   IsJobAnswer (solve name search (Some path) None) r before now answer =
       IsInputAnswer text_limit (RepliesKept on name search before now) r answer × LeavesOfSearch name search.within path r before now

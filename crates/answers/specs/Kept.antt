@@ -1,15 +1,13 @@
 -- When the answer to a search that keeps a journal is right.
 use Rattle.std.specs.Prelude.{◌≡◌, ℕ, ℤ, List, [], ◌∷◌, cond, Option, Some, None, MatchResult, IfOk, IsSome}
 use Rattle.disk.specs.declared.disk.Disk.{Ghosts}
-use Rattle.disk.specs.Counts.{Rose}
 use Rattle.dp_model.specs.Dp.{Dp}
+use Rattle.board_laws.specs.Starts.{whole_search}
 use Rattle.journal_bytes.specs.Base.{is_snapshot}
 use Rattle.journal_bytes.specs.Bodies.{RecordView}
-use Rattle.journal_bytes.specs.Frames.{frames_of}
 use Rattle.journal_bytes.specs.declared.head.Part.{Part}
 use Rattle.journal_bytes.specs.declared.head.TheConstants.{VERSION}
-use Rattle.journal_bytes.specs.Journal.{HeadView, JournalView, HasRecords, after_head, journal_of}
-use Rattle.journal_file.specs.Refusing.{error_of}
+use Rattle.journal_bytes.specs.Journal.{HeadView, JournalView, HasRecords}
 use Rattle.journal_file.specs.declared.error.JournalError.TheVariants as errors
 use Rattle.journal_replay.specs.Accepting.{AreAccepted, AreRefused}
 use Rattle.journal_replay.specs.Replay.{replay_of, restored_from}
@@ -30,6 +28,7 @@ use Rattle.answers.specs.Outcomes.{HasSearched}
 use Rattle.answers.specs.PartSearches.{HasSearchedPart}
 use Rattle.answers.specs.Journals.{AreFrontsAdded, Attaches, HasDiskFailed, HasGoneOn, HasKept, IsRefusedToBegin, IsUnwritten, LeavesBegun, LeavesResumed, MightBegin, SinceAttached}
 use Rattle.answers.specs.Offers.{HasTaken, RefusesOffer, RefusesReport, part_value, parts_told, told_value}
+use Rattle.answers.specs.Opened.{IsForDisk}
 use Rattle.answers.specs.Widths.{IsRefusedWidth, IsSearchWidth}
 use Rattle.solver_words.specs.declared.job.JobSettings.{JobSettings}
 
@@ -53,6 +52,11 @@ going_on head search = record search { within = head.within }
 abbrev pub starts_in : List RecordView → Option (List (List ℕ))
 starts_in [] = None
 starts_in (r ∷ rs) = cond (is_snapshot r) (Some (starts_of r)) None
+
+-- the start prefixes of the search whose journal has these records: the empty one of a whole search, and of a part those of its first record
+abbrev pub starts_for : Option Part → List RecordView → Option (List (List ℕ))
+starts_for None records = Some whole_search
+starts_for (Some part) records = starts_in records
 
 -- a part as an answer tells it
 abbrev pub searched_part : Part → SearchedPart
@@ -105,32 +109,23 @@ module _ {D : Type 0} (on : Ghosts D) where
   ResumesIn dp own (Some part) head records first offers search now answer = ResumesPart dp own part (starts_in records) head records first offers search now answer
 
   -- for a journal whose first record has this offset: for the instance of its head, whose text is refused as malformed at 0
-  abbrev pub ResumesJournal : JournalView → ℕ → List ReportView → JobSettings → D → Answer → Type 0
-  ResumesJournal j first offers search now answer =
+  abbrev pub ResumesJournal : List ReportView → JobSettings → D → JournalView → ℕ → Answer → Type 0
+  ResumesJournal offers search now j first answer =
       let t = theory_of j.head.model in
       MatchResult (t.spelled j.head.text)
       (λ numbers. ResumesIn (t.program numbers) (t.own_value numbers) j.head.part j.head j.records first offers search now answer)
       (λ e. answer ≡ answers.Journal (errors.Malformed 0))
 
-  -- a file was read after the first sync, which is what that found where the disk tells it; the answer is for the journal that it is, or the first cause for which it is none
-  pub record WasResumed (offers : List ReportView) (search : JobSettings) (now : D) (answer : Answer) : Type 0 where
-    pub began : IsSome (on.start now)
-    pub file : List ℕ
-    pub is_file : SinceAttached on now (λ s. s.content ≡ file)
-    pub right : MatchResult (journal_of file)
-        (λ j. ResumesJournal j (after_head (frames_of file)) offers search now answer)
-        (λ refusal. answer ≡ answers.Journal (error_of refusal))
+  -- nothing was written where the journal, the width or an offer is refused
+  abbrev pub SparesRefused : D → Answer → Type 0
+  SparesRefused now (answers.Journal e) = IsUnwritten on now
+  SparesRefused now answers.Width = IsUnwritten on now
+  SparesRefused now (answers.ReportsRefused refusal) = IsUnwritten on now
+  SparesRefused now _ = Unit {0}
 
-  -- what `resume` may answer: the disk has failed, memory ran out, or the answer is for the file; nothing was written where the disk failed, or the file,
-  -- the width or an offer is refused
+  -- what `resume` may answer: the disk has failed, memory ran out, or the answer is for the file
   abbrev pub Resumes : List ReportView → JobSettings → D → D → Answer → Type 0
-  Resumes offers search before now (answers.Journal errors.Disk) = Rose (on.faults before) (on.faults now) × IsUnwritten on now
-  Resumes offers search before now (answers.Journal errors.OutOfMemory) = Unit {0}
-  Resumes offers search before now (answers.Journal e) = WasResumed offers search now (answers.Journal e) × IsUnwritten on now
-  Resumes offers search before now answers.Width = WasResumed offers search now answers.Width × IsUnwritten on now
-  Resumes offers search before now (answers.ReportsRefused refusal) = WasResumed offers search now (answers.ReportsRefused refusal) × IsUnwritten on now
-  Resumes offers search before now answers.OutOfMemory = Unit {0}
-  Resumes offers search before now answer = WasResumed offers search now answer
+  Resumes offers search before now answer = IsForDisk on (ResumesJournal offers search now) before now answer × SparesRefused now answer
 
   -- what it may answer where the input is reports, whose solutions are offered before the search goes on; the input is refused at its first fault, and then the
   -- disk is as it was

@@ -12,9 +12,9 @@ pub mod Answers
 pub mod Offers
 -- what a run leaves on its disk where it keeps a journal, and what it then answers
 pub mod Journals
+pub mod Opened
 pub mod Kept
 -- what is answered for a journal that is only read
-pub mod Opened
 pub mod Splits
 pub mod ReportsJoined
 -- how a run ends

@@ -1,4 +1,4 @@
--- When an answer for the journal in a file is right that is only read.
+-- When an answer for the journal in a file is right.
 use Rattle.std.specs.Prelude.{◌≡◌, ℕ, List, MatchResult, IsSome}
 use Rattle.disk.specs.declared.disk.Disk.{Ghosts}
 use Rattle.disk.specs.Counts.{Rose}

@@ -6,7 +6,6 @@ use Rattle.dp_model.specs.Lists.{Each}
 use Rattle.dp_model.specs.Solution.{Solution}
 use Rattle.board_laws.specs.Board.{BoardState, incumbent_value, value_held}
 use Rattle.board_laws.specs.GoodBoard.{IncumbentHolds}
-use Rattle.board_laws.specs.Starts.{whole_search}
 use Rattle.frontier_parts.specs.Settled.{joined}
 use Rattle.journal_bytes.specs.Bodies.{IncumbentView, RecordView}
 use Rattle.journal_bytes.specs.Journal.{JournalView}
@@ -28,7 +27,7 @@ use Rattle.solver_report.specs.declared.answer.PartOutcome.TheVariants.{Settled}
 use Rattle.solver_report.specs.declared.answer.ReportRefusal.{ReportRefusal}
 use Rattle.solver_report.specs.declared.answer.ReportRefusal.TheVariants as refusals
 use Rattle.answers.specs.Journals.{Attaches, IsUnwritten}
-use Rattle.answers.specs.Kept.{searched_part, starts_in}
+use Rattle.answers.specs.Kept.{searched_part, starts_for}
 use Rattle.answers.specs.Offers.{RefusesReport, parts_told}
 use Rattle.answers.specs.Opened.{ReadsNamed}
 use Rattle.answers.specs.Outcomes.{IsTrueOf}
@@ -84,11 +83,6 @@ joined_of b rs = joined (incumbent_value b) (values_told rs)
 -- than the distance
 abbrev pub AreAllHeld : Dp → BoardState → List ReportView → Type 0
 AreAllHeld dp b rs = (i : ℕ) → i < length rs → IsHeldWithin dp b rs i
-
--- the start prefixes of the search whose journal has these records: the empty one of a whole search, and of a part those of its first record
-abbrev pub starts_for : Option Part → List RecordView → Option (List (List ℕ))
-starts_for None records = Some whole_search
-starts_for (Some part) records = starts_in records
 
 -- a solution that was told of, as it is told
 abbrev pub told_solution : IncumbentView → Solution

@@ -30,8 +30,8 @@ use std::sync::Arc;
 /// The greatest size of a bound that a text holds.
 const MOST_BOUND: i64 = 1 << 62;
 
-/// The answer to outputs of the parts of a problem, one after another: the output of the whole problem, or the first fault: of a text, or else of the
-/// first instance, or else of the parts.
+/// The answer to outputs of the parts of a problem, one after another: the output of the whole problem, or the first fault: of a text, or
+/// else of the first instance, or else of the parts.
 pub fn join_texts(alloc: Global, bytes: &[u8]) -> Answer
     requires { length bytes.now < 2 ^ 32 - 1 }
     ensures { IsJoined bytes.now result }

@@ -1,4 +1,4 @@
-ghost use Rattle.std.specs.Prelude.{◌≡◌, ◌≤◌, ◌<◌, ◌^◌, ◌-◌, [], length, IfOk, OnOk, IfErr, IfSome, IsSome, IsErrOf, IsTrue};
+ghost use Rattle.std.specs.Prelude.{◌≡◌, ◌≤◌, ◌<◌, ◌^◌, ◌-◌, [], length, is_some, IfOk, OnOk, IfErr, IfSome, IsSome, IsErrOf, IsTrue};
 ghost use Rattle.disk.specs.Counts.{Rose};
 ghost use Rattle.dp_model.specs.Distances.{IsDistance};
 ghost use Rattle.journal_bytes.specs.Journal.{HasRecords, head_view};
@@ -6,7 +6,7 @@ ghost use Rattle.journal_file.specs.Beginning.{IsBegun, LeavesSince, MayBegin};
 ghost use Rattle.journal_file.specs.Settled.{IsOpen};
 ghost use Rattle.problems.specs.Theories.{theory_of};
 ghost use Rattle.answers.specs.Journals.{Attaches, IsRefusedToBegin, IsUnwritten, HasOpened, MightBegin, SinceAttached, SparesOthers};
-ghost use Rattle.answers.specs.Kept.{head_of};
+ghost use Rattle.answers.specs.Kept.{head_of, starts_for};
 
 use disk::Disk;
 use journal_file::{Head, JournalError, Records, Tail, begin, reopen};
@@ -105,4 +105,17 @@ pub fn open_journal<D: Disk>(
 {
     disk.attach(path)?;
     reopen(alloc, disk)
+}
+
+/// Whether the search whose journal it is has start prefixes. That of a part has none if its journal does not begin with a snapshot.
+pub fn has_starts(head: &Head, records: &Records) -> bool
+    ensures { result ≡ is_some (starts_for head.now.part records.now.records) }
+{
+    if head.part.is_none() {
+        return true;
+    }
+    match records.as_slice() {
+        [first, ..] => first.is_snapshot(),
+        [] => false,
+    }
 }

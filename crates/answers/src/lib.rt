@@ -14,10 +14,11 @@
 //! its disk, and when its answer is right, is defined in `specs/Journals.antt` and `specs/Kept.antt`. `read_offers` reads the reports whose
 //! solutions are offered to a search before it goes on. What becomes of them is defined in `specs/Offers.antt`.
 //!
-//! It stands on `problems` for instances, on `parts` for parts of them, on `board` for the board of a search, on `disk` and `journal_file` for
-//! journals, on `journal_replay` and `kept_board` for what their records make, on `frontier_parts`, `part_records` and `part_files` for parts of a stopped search, on `bound_cover`, `cover_pages`, `cover_book` and
-//! `cover_text` for covers and the books that they are made from, on `sha2` for digests, on `streams` for streams, on `solver_words` for the words and on `solver_report`
-//! for answers and their texts. It starts no search: the program does.
+//! It stands on `problems` for instances, on `parts` for parts of them, on `board` for the board of a search, on `disk` and `journal_file`
+//! for journals, on `journal_replay` and `kept_board` for what their records make, on `frontier_parts`, `part_records` and `part_files` for
+//! parts of a stopped search, on `bound_cover`, `cover_pages`, `cover_book` and `cover_text` for covers and the books that they are made
+//! from, on `sha2` for digests, on `streams` for streams, on `solver_words` for the words and on `solver_report` for answers and their
+//! texts. It starts no search: the program does.
 //!
 //! ```
 //! let answer = digest_text::<Knapsack>(alloc, b"3 10\n60 5\n50 4\n70 6\n");
@@ -46,7 +47,7 @@ pub use covering::{Conclusion, Subject, told};
 pub use digesting::digest_text;
 pub use inputs::{answer_cover, answer_parts, unread};
 pub use joining::join_texts;
-pub use journaling::{begin_journal, open_journal};
+pub use journaling::{begin_journal, has_starts, open_journal};
 pub use offering::read_offers;
 pub use parting::part_of;
 pub use printing::printed;

@@ -1,6 +1,6 @@
 //! Reports of the parts of a stopped search, joined to that of the search.
 
-ghost use Rattle.std.specs.Prelude.{◌≡◌, ◌⊎◌, ◌<◌, ◌-◌, ◌^◌, ℕ, ℤ, List, length, map, option_map, is_some, IfErr, IfOk, MatchResult, OnOk};
+ghost use Rattle.std.specs.Prelude.{◌≡◌, ◌⊎◌, ◌<◌, ◌-◌, ◌^◌, ℕ, ℤ, List, length, map, option_map, IfErr, IfOk, MatchResult, OnOk};
 ghost use Rattle.dp_model.specs.Distances.{IsDistance};
 ghost use Rattle.dp_model.specs.Dp.{Dp};
 ghost use Rattle.board_laws.specs.Board.{value_held};
@@ -14,12 +14,13 @@ ghost use Rattle.problems.specs.Theories.{theory_of};
 ghost use Rattle.answers.specs.Covers.{cover_limit};
 ghost use Rattle.answers.specs.Ended.{IsInputAnswer, LeavesAfterReports, readings};
 ghost use Rattle.answers.specs.Journals.{Attaches, IsUnwritten};
+ghost use Rattle.answers.specs.Kept.{starts_for};
 ghost use Rattle.answers.specs.Opened.{ReadsNamed};
 ghost use Rattle.answers.specs.Offers.{parts_told};
-ghost use Rattle.answers.specs.ReportsJoined.{AreWithin, DistancesGive, DoesNotJoin, HasBest, HasJoined, JoinsIn, JoinsJournal, JoinsReports, LeavesRead, RefusesReports, joined_answer, joined_of, starts_for, told_solution, whole_outcome};
+ghost use Rattle.answers.specs.ReportsJoined.{AreWithin, DistancesGive, DoesNotJoin, HasBest, HasJoined, JoinsIn, JoinsJournal, JoinsReports, LeavesRead, RefusesReports, joined_answer, joined_of, told_solution, whole_outcome};
 
 use crate::inputs::{COVER_LIMIT, unread};
-use crate::journaling::open_journal;
+use crate::journaling::{has_starts, open_journal};
 use crate::settling::searched_part;
 use crate::splitting::stopped_board;
 use board::Board;
@@ -147,19 +148,6 @@ fn join_model<P: Problem>(
     }
 }
 
-/// Whether the search whose journal it is has start prefixes: the journal of a part does not where it does not begin with a snapshot.
-fn has_starts(head: &Head, records: &Records) -> bool
-    ensures { result ≡ is_some (starts_for head.now.part records.now.records) }
-{
-    if head.part.is_none() {
-        return true;
-    }
-    match records.as_slice() {
-        [first, ..] => first.is_snapshot(),
-        [] => false,
-    }
-}
-
 /// The answer with a best solution, or none, of the search whose journal has this head.
 fn joined_answer(head: &Head, best: Option<Solution>) -> Answer
     ensures { result ≡ joined_answer head.now.part head.now.within best }
@@ -187,8 +175,8 @@ fn whole_outcome(within: i64, best: Option<Solution>) -> Outcome
     }
 }
 
-/// The best solution of all reports and of the board that the records make, or none. Otherwise the answer: the first record that is refused, why the
-/// reports are, or that memory ran out.
+/// The best solution of all reports and of the board that the records make, or none. Otherwise the answer: the first record that is
+/// refused, why the reports are, or that memory ran out.
 fn joined_best<M: DpModel>(
     alloc: Global,
     model: M,
@@ -203,10 +191,7 @@ fn joined_best<M: DpModel>(
     let Ok(model) = Arc::new(alloc, model) else {
         return Err(Answer::OutOfMemory);
     };
-    let Ok(shared) = Arc::try_clone(&model) else {
-        return Err(Answer::OutOfMemory);
-    };
-    match stopped_board(alloc, shared, records) {
+    match stopped_board(alloc, &model, records) {
         Ok(board) => best_on(alloc, &*model, &board, records.within(), digest, reports),
         Err(error) => Err(Answer::Journal(error)),
     }

@@ -149,7 +149,7 @@ fn part_record<M: DpModel>(
     let Ok(model) = Arc::new(alloc, model) else {
         return Err(JournalError::OutOfMemory);
     };
-    let board = stopped_board(alloc, model, records)?;
+    let board = stopped_board(alloc, &model, records)?;
     match dealt_record(alloc, &board, part) {
         Ok(record) => Ok(record),
         Err(_) => Err(JournalError::OutOfMemory),
@@ -172,15 +172,18 @@ fn idle_settings(within: i64) -> Settings
 /// The board of a stopped search, from the records of its journal. It is refused as `replay` says.
 pub(crate) fn stopped_board<M: DpModel>(
     alloc: Global,
-    model: Arc<M>,
+    model: &Arc<M>,
     records: &Records,
 ) -> Result<Board<M>, JournalError>
     requires { IsDistance records.now.within }
-    ensures accepted { OnOk result (AreAccepted (M.meaning (M.numbers (arc_value model))) records.now.records) }
-    ensures numbers { IfOk result (λ b. b.numbers ≡ M.numbers (arc_value model)) }
-    ensures board { IfOk result (λ b. b.board ≡ stopped_board (M.meaning (M.numbers (arc_value model))) records.now.within records.now.records) }
-    ensures refused { IfErr result (AreRefused (M.meaning (M.numbers (arc_value model))) records.now.first records.now.records) }
+    ensures accepted { OnOk result (AreAccepted (M.meaning (M.numbers (arc_value model.now))) records.now.records) }
+    ensures numbers { IfOk result (λ b. b.numbers ≡ M.numbers (arc_value model.now)) }
+    ensures board { IfOk result (λ b. b.board ≡ stopped_board (M.meaning (M.numbers (arc_value model.now))) records.now.within records.now.records) }
+    ensures refused { IfErr result (AreRefused (M.meaning (M.numbers (arc_value model.now))) records.now.first records.now.records) }
 {
+    let Ok(model) = Arc::try_clone(model) else {
+        return Err(JournalError::OutOfMemory);
+    };
     let settings = idle_settings(records.within());
     replay(alloc, records, model, settings)
 }

@@ -51,11 +51,6 @@ slots-offer dp b x Yes = refl
 slots-offer dp b x NotBetter = refl
 slots-offer dp b x NoSolution = refl
 
-pub cause-offer : (dp : Dp) (b : BoardState) (x : List ℕ) (answer : Improved) → (after_offer dp answer b x).cause ≡ b.cause
-cause-offer dp b x Yes = refl
-cause-offer dp b x NotBetter = refl
-cause-offer dp b x NoSolution = refl
-
 module _ (dp : Dp) (b later : BoardState) where
   -- a run by an offer
   pub offered : (x : List ℕ) (answer : Improved) → ImproveGives dp b x answer → later ≡ after_offer dp answer b x → IsLater dp b later
@@ -96,9 +91,6 @@ worth-none (q ∷ qs) value few = absurd (omega (arith, few))
 -- ---- kept boards
 
 module _ {D : Type 0} (dp : Dp) where
-  pub none-offered : (k : KeptView D) → IsAfterOffers dp k k
-  none-offered k = record { later = later-self dp k.board.board k.board.board refl; tag = refl; made = refl; has = refl }
-
   -- after one offer
   pub after-offer : (on : Ghosts D) (meaning : List ℤ → Dp) (who : ℕ) (before now : KeptView D) → IsLater dp before.board.board now.board.board → tag_of now ≡ tag_of before → IsMove on meaning before now who → IsAfterOffers dp before now
   after-offer on meaning who before now later tag move = record { later = later; tag = tag; made = move.made; has = move.has }

@@ -1,5 +1,5 @@
 -- A search that begins a journal.
-use Rattle.std.proofs.Common.{◌≡◌, ℕ, ℤ, List, [], true, Option, IsSome, Result, Ok, Err, IfOk, ap, subst, sym, ◌∙◌}
+use Rattle.std.proofs.Common.{◌≡◌, ℕ, ℤ, List, [], true, Option, IsSome, Result, Ok, Err, IfOk, subst, sym}
 use Rattle.std.specs.declared.alloc.AllocError.{AllocError}
 use Rattle.disk.specs.declared.disk.Disk.{Ghosts}
 use Rattle.disk.specs.Disk.{FirstSync}

@@ -1,9 +1,8 @@
 -- What words ask to be drawn can be drawn.
-use Rattle.std.proofs.Common.{◌≡◌, ℕ, ◌≤◌, Option, Some, None, IsSome, refl, sym, ◌∙◌, subst}
+use Rattle.std.proofs.Common.{◌≡◌, ℕ, ◌≤◌, Option, Some, None, IsSome, refl, ◌∙◌, subst}
 use Rattle.std.specs.Prelude.{option_map}
 use Rattle.problem_names.specs.declared.ModelName.{ModelName}
 use Rattle.problem_names.specs.declared.Sizes.{Sizes}
-use Rattle.problem_names.specs.ModelNames.{sizes_of}
 use Rattle.problem_theory.specs.Theory.{CanDraw, Drawing}
 use Rattle.problems.specs.Theories.{sizes_drawn, theory_of}
 use Rattle.solver_words.specs.Possible.{MayDraw}

@@ -1,5 +1,5 @@
 -- A search that goes on from a journal.
-use Rattle.std.proofs.Common.{◌≡◌, ◌⊎◌, inl, inr, ⊎_elim, ℕ, ℤ, List, [], ◌∷◌, Bool, true, false, ◌&&◌, Option, None, is_some, IsSome, IsTrue, Result, Ok, Err, IfOk, IfErr, Vec, Global, cond, refl, sym, subst, ap, ◌∙◌, Some}
+use Rattle.std.proofs.Common.{◌≡◌, ◌⊎◌, inl, inr, ⊎_elim, ℕ, ℤ, List, [], Bool, true, false, ◌&&◌, Option, None, is_some, IsSome, IsTrue, Result, Ok, Err, IfOk, IfErr, Vec, Global, refl, sym, subst, ap, ◌∙◌, Some}
 use Rattle.std.specs.Prelude.{MatchResult}
 use Rattle.std.specs.declared.alloc.AllocError.{AllocError}
 use Rattle.disk.specs.declared.disk.Disk.{Ghosts}
@@ -12,19 +12,13 @@ use Rattle.board_laws.specs.Board.{BoardState}
 use Rattle.board_laws.specs.GoodBoard.{IsGood}
 use Rattle.board_laws.specs.declared.settings.Settings.{Settings}
 use Rattle.journal_bytes.specs.Bodies.{RecordView, RecordsView}
-use Rattle.journal_bytes.specs.Frames.{frames_of}
-use Rattle.journal_bytes.specs.Journal.{HeadView, HasRecords, JournalView, after_head, head_view, journal_of, journal_view}
+use Rattle.journal_bytes.specs.Journal.{HeadView, HasRecords, JournalView, head_view, journal_view}
 use Rattle.journal_bytes.specs.declared.head.Head.{Head}
 use Rattle.journal_bytes.specs.declared.head.Part.{Part}
 use Rattle.journal_bytes.specs.declared.tail.Tail.{Tail}
-use Rattle.journal_bytes.specs.declared.refusal.Refusal.{Refusal}
-use Rattle.journal_bytes.specs.declared.refusal.Refusal.TheVariants as bytes
-use Rattle.journal_file.specs.Refusing.{IsRefusal, error_of}
-use Rattle.journal_file.specs.declared.error.JournalError.{JournalError}
 use Rattle.journal_file.specs.declared.error.JournalError.TheVariants as errors
 use Rattle.journal_replay.specs.Accepting.{AreAccepted}
 use Rattle.journal_replay.specs.Replay.{replay_of, restored_from}
-use Rattle.journal_replay.specs.Parts.{starts_of}
 use Rattle.journal_replay.specs.Sound.{AreSound}
 use Rattle.journal_replay.proofs.Joined.{sound-restore-good}
 use Rattle.board.specs.View.{BoardView}
@@ -39,7 +33,7 @@ use Rattle.solver_report.specs.declared.answer.Outcome.TheVariants as outcomes
 use Rattle.solver_report.specs.Report.{is_final}
 use Rattle.solver_words.specs.Possible.{MaySearch}
 use Rattle.answers.specs.Journals.{HasDiskFailed, HasGoneOn, HasKept, HasOpened, IsUnwritten, LeavesResumed}
-use Rattle.answers.specs.Kept.{GoesOn, GoesOnPart, going_on, MayBeAdded, MayFollow, Resumes, ResumesIn, ResumesJournal, ResumesPart, WasResumed, starts_in}
+use Rattle.answers.specs.Kept.{GoesOn, GoesOnPart, going_on, MayBeAdded, MayFollow, Resumes, ResumesIn, ResumesJournal, ResumesPart, SparesRefused, starts_for, starts_in}
 use Rattle.answers.specs.Offers.{AreWorthAtMost, HasTaken, part_value, told_value}
 use Rattle.answers.specs.Outcomes.{HasSearched}
 use Rattle.answers.specs.PartSearches.{part_outcome}
@@ -47,9 +41,9 @@ use Rattle.answers.specs.Over.{IsOver}
 use Rattle.solver_words.specs.declared.job.JobSettings.{JobSettings}
 use Rattle.answers.proofs.Journaled.{IsFound, at-first, ends-resumed, failed-later, is-found, left-following, none-following, same-names, same-start, still-first, still-tells}
 use Rattle.solver_cli.specs.Journals.{IsOpened, LeavesOpened, TouchesNothing}
-use Rattle.solver_cli.specs.Searches.{IsKeptOn, IsToldOn, KeepsSome, begins_with, or_memory, report_in}
+use Rattle.solver_cli.specs.Searches.{IsKeptOn, IsToldOn, KeepsSome, or_memory, report_in}
 use Rattle.solver_cli.specs.Starts.{AreAsked, DoesNotTake, GoesOnFrom}
-use Rattle.answers.proofs.Opened.{refused-not-disk}
+use Rattle.answers.proofs.Opened.{for-opened, refused-not-disk}
 use Rattle.answers.proofs.PartSearches.{records_searched}
 use Rattle.solver_cli.proofs.Starts.{are-settings}
 use Rattle.solver_cli.proofs.Told.{Told}
@@ -168,14 +162,6 @@ module _ {D : Type 0} (on : Ghosts D) where
 
   -- ---- the journal of a whole search, or of a part
 
-  -- a journal that a search does not begin with is refused at its first record
-  pub not-begun : (dp : Dp) (own : List ℕ → Option ℤ) (part : Option Part) (head : HeadView) (records : List RecordView) (first : ℕ) (offers : List ReportView) (asked : JobSettings) (now : D) → begins_with part records ≡ false
-      → ResumesIn on dp own part head records first offers asked now (answers.Journal (errors.Malformed first))
-  not-begun dp own None head records first offers asked now never = absurd (cc)
-  not-begun dp own (Some part) head [] first offers asked now never = refl
-  not-begun dp own (Some part) head (r ∷ rs) first offers asked now never =
-      subst (λ b. ResumesPart on dp own part (cond b (Some (starts_of r)) None) head (r ∷ rs) first offers asked now (answers.Journal (errors.Malformed first))) (sym never) refl
-
   -- what was told of a search that goes on, or why it does not
   module _ (dp : Dp) (laws : IsLawful dp) (own : List ℕ → Option ℤ) (agrees : Agrees dp own) (head : HeadView) (records : RecordsView) (offers : List ReportView) (asked : JobSettings) (may : MaySearch (going_on head asked)) (plain : asked.cover_words ≡ None) (before now : D) where
     abbrev Told-by : Result Told Answer → Type 0
@@ -200,18 +186,16 @@ module _ {D : Type 0} (on : Ghosts D) where
     )
     in-part part starts (Err answer) h why = told-why-part dp own head records offers asked now part starts answer why.0
 
-    begun-part : (part : Part) (ended : Result Told Answer) (rs : List RecordView) → begins_with (Some part) rs ≡ true
-        → ((starts : List (List ℕ)) → GoesOnPart on dp own part starts head records.records records.first offers asked now (report_in (Some part) head.within ended))
-        → ResumesPart on dp own part (starts_in rs) head records.records records.first offers asked now (report_in (Some part) head.within ended)
-    begun-part part ended [] begun goes = absurd (cc)
-    begun-part part ended (r ∷ rs) begun goes =
-        subst (λ b. ResumesPart on dp own part (cond b (Some (starts_of r)) None) head records.records records.first offers asked now (report_in (Some part) head.within ended)) (sym begun) (goes (starts_of r))
+    with-starts : (part : Part) (ended : Result Told Answer) (starts : Option (List (List ℕ))) → is_some starts ≡ true → Told-by ended → Refused-by ended
+        → ResumesPart on dp own part starts head records.records records.first offers asked now (report_in (Some part) head.within ended)
+    with-starts part ended None there told why = absurd (cc)
+    with-starts part ended (Some starts) there told why = in-part part starts ended told why
 
     -- the answer to it
-    pub resumes-in : (part : Option Part) (ended : Result Told Answer) → begins_with part records.records ≡ true → Told-by ended → Refused-by ended
+    pub resumes-in : (part : Option Part) (ended : Result Told Answer) → is_some (starts_for part records.records) ≡ true → Told-by ended → Refused-by ended
         → ResumesIn on dp own part head records.records records.first offers asked now (report_in part head.within ended)
-    resumes-in None ended begun told why = in-whole ended told why
-    resumes-in (Some part) ended begun told why = begun-part part ended records.records begun (λ starts. in-part part starts ended told why)
+    resumes-in None ended there told why = in-whole ended told why
+    resumes-in (Some part) ended there told why = with-starts part ended (starts_in records.records) there told why
 
   -- ---- a journal that was opened
 
@@ -239,8 +223,8 @@ module _ {D : Type 0} (on : Ghosts D) where
   }
 
   -- it is not refused for the disk
-  not-for-disk : (j : JournalView) (first : ℕ) (offers : List ReportView) (search : JobSettings) (now : D) → ResumesJournal on j first offers search now (answers.Journal errors.Disk) → ⊥
-  not-for-disk j first offers search now h = never ((theory_of j.head.model).spelled j.head.text) h
+  not-for-disk : (offers : List ReportView) (search : JobSettings) (now : D) (j : JournalView) (first : ℕ) → ResumesJournal on offers search now j first (answers.Journal errors.Disk) → ⊥
+  not-for-disk offers search now j first h = never ((theory_of j.head.model).spelled j.head.text) h
     where
       for-part : (dp : Dp) (own : List ℕ → Option ℤ) (part : Part) (starts : Option (List (List ℕ))) → ResumesPart on dp own part starts j.head j.records first offers search now (answers.Journal errors.Disk) → ⊥
       for-part dp own part None same = cc
@@ -256,50 +240,28 @@ module _ {D : Type 0} (on : Ghosts D) where
       never (Err e) same = cc
 
   module _ (offers : List ReportView) (search : JobSettings) (before made now : D) (Follow : List RecordView → Type 0) (r : Head × RecordsView × Tail) (opened : HasOpened on made (Ok r)) (began : IsSome (on.start made)) (left : LeavesOpened on Follow (head_view r.2.version r.0) r.1.records made now) where
-    was-resumed : (answer : Answer) → ResumesJournal on (journal_view r) r.1.first offers search now answer → WasResumed on offers search now answer
-    was-resumed answer h = record {
+    still-opened : HasOpened on now (Ok r)
+    still-opened = record {
       file = opened.file;
-      began = subst (λ (o : Option FirstSync). IsSome o) (sym left.start) began;
       is_file = λ tells. still-first (on.start made) (on.start now) (on.found made) (on.seen made) (on.found now) (on.seen now) (λ s. s.content ≡ opened.file) began left.start (opened.is_file (subst IsTrue left.still_tells tells));
-      right = subst (λ x. MatchResult x (λ j. ResumesJournal on j (after_head (frames_of opened.file)) offers search now answer) (λ refusal. answer ≡ answers.Journal (error_of refusal))) (sym opened.opens)
-          (subst (λ first. ResumesJournal on (journal_view r) first offers search now answer) opened.first h);
+      opens = opened.opens;
+      first = opened.first;
+      began = tt;
     }
 
-    resumed : IsUnwritten on made → (answer : Answer) → ResumesJournal on (journal_view r) r.1.first offers search now answer → TouchesNothing made now answer → Resumes on offers search before now answer
-    resumed unwritten (answers.Journal errors.Disk) h stays = absurd (not-for-disk (journal_view r) r.1.first offers search now h)
-    resumed unwritten (answers.Journal errors.OutOfMemory) h stays = tt
-    resumed unwritten (answers.Journal e) h stays = (was-resumed (answers.Journal e) h, subst (IsUnwritten on) (sym stays) unwritten)
-    resumed unwritten answers.Width h stays = (was-resumed answers.Width h, subst (IsUnwritten on) (sym stays) unwritten)
-    resumed unwritten (answers.ReportsRefused e) h stays = (was-resumed (answers.ReportsRefused e) h, subst (IsUnwritten on) (sym stays) unwritten)
-    resumed unwritten answers.OutOfMemory h stays = tt
-    resumed unwritten answer h stays = was-resumed answer h
+    spared : IsUnwritten on made → (answer : Answer) → TouchesNothing made now answer → SparesRefused on now answer
+    spared unwritten (answers.Journal e) stays = subst (IsUnwritten on) (sym stays) unwritten
+    spared unwritten answers.Width stays = subst (IsUnwritten on) (sym stays) unwritten
+    spared unwritten (answers.ReportsRefused e) stays = subst (IsUnwritten on) (sym stays) unwritten
+    spared unwritten answer stays = tt
 
     -- the answer to a journal that was opened
-    pub answered : IsUnwritten on made → (answer : Answer) → (answer ≡ answers.OutOfMemory) ⊎ ResumesJournal on (journal_view r) r.1.first offers search now answer → TouchesNothing made now answer → Resumes on offers search before now answer
-    answered unwritten answer (inl memory) stays = subst (Resumes on offers search before now) (sym memory) tt
-    answered unwritten answer (inr h) stays = resumed unwritten answer h stays
+    pub answered : IsUnwritten on made → (answer : Answer) → (answer ≡ answers.OutOfMemory) ⊎ ResumesJournal on offers search now (journal_view r) r.1.first answer → TouchesNothing made now answer → Resumes on offers search before now answer
+    answered unwritten answer h stays = (
+      for-opened on (ResumesJournal on offers search now) before now r still-opened (subst (λ (o : Option FirstSync). IsSome o) (sym left.start) began) (not-for-disk offers search now (journal_view r) r.1.first) answer h,
+      spared unwritten answer stays,
+    )
 
     -- and what is left of it
     pub is-found-still : IsFound on (head_view r.2.version r.0) r.1.records now
     is-found-still tells = still-first (on.start made) (on.start now) (on.found made) (on.seen made) (on.found now) (on.seen now) (λ s. HasRecords (head_view r.2.version r.0) r.1.records s.content) began left.start (is-found on made r opened (subst IsTrue left.still_tells tells))
-
-  module _ (offers : List ReportView) (search : JobSettings) (before now : D) where
-    was-refused : (e : JournalError) (refusal : Refusal) (opened : HasOpened on now (Err e)) → IsRefusal e → journal_of opened.file ≡ Err refusal → error_of refusal ≡ e → WasResumed on offers search now (answers.Journal e)
-    was-refused e refusal opened told read same = record {
-      file = opened.file;
-      began = opened.began told;
-      is_file = opened.is_file;
-      right = subst (λ x. MatchResult x (λ j. ResumesJournal on j (after_head (frames_of opened.file)) offers search now (answers.Journal e)) (λ why. answers.Journal e ≡ answers.Journal (error_of why))) (sym read)
-          (ap (λ (x : JournalError). answers.Journal x) (sym same));
-    }
-
-    -- the answer to a file that is not opened
-    pub not-opened : (e : JournalError) → HasOpened on now (Err e) → (e ≡ errors.Disk → Rose (on.faults before) (on.faults now)) → IsUnwritten on now → Resumes on offers search before now (answers.Journal e)
-    not-opened errors.Disk opened rose unwritten = (rose refl, unwritten)
-    not-opened errors.NotBegun opened rose unwritten = (was-refused errors.NotBegun bytes.NotBegun opened tt opened.opens refl, unwritten)
-    not-opened errors.Exists opened rose unwritten = absurd opened.opens
-    not-opened (errors.Damaged offset) opened rose unwritten = (was-refused (errors.Damaged offset) (bytes.Damaged offset) opened tt opened.opens refl, unwritten)
-    not-opened (errors.Malformed offset) opened rose unwritten = (was-refused (errors.Malformed offset) (bytes.Malformed offset) opened tt opened.opens refl, unwritten)
-    not-opened (errors.Version found) opened rose unwritten = (was-refused (errors.Version found) (bytes.Version found) opened tt opened.opens refl, unwritten)
-    not-opened (errors.NoSolution offset) opened rose unwritten = absurd opened.opens
-    not-opened errors.OutOfMemory opened rose unwritten = tt

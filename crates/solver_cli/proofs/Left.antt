@@ -1,5 +1,5 @@
 -- What a search of a text leaves, as what a search of the input leaves; and what one leaves that goes on with offers.
-use Rattle.std.proofs.Common.{◌≡◌, ◌⊎◌, inl, inr, refl, ℕ, ℤ, List, Result, Ok, Err}
+use Rattle.std.proofs.Common.{◌≡◌, inl, inr, refl, ℕ, ℤ, List, Result, Ok, Err}
 use Rattle.std.specs.Prelude.{IsOk, IsOkAnd}
 use Rattle.disk.specs.declared.disk.Disk.{Ghosts}
 use Rattle.problem_names.specs.declared.ModelName.{ModelName}

@@ -11,5 +11,3 @@ pub mod GoingOn
 pub mod Offered
 pub mod Drawn
 pub mod Left
-pub mod Whole
-pub mod Unready

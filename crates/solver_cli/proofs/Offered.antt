@@ -21,7 +21,8 @@ use Rattle.solver_words.specs.declared.job.JobSettings.{JobSettings}
 use Rattle.tokens.specs.declared.instance_error.InstanceError.{InstanceError}
 use Rattle.answers.specs.Covers.{cover_limit}
 use Rattle.answers.specs.Ended.{IsInputAnswer, Readings, WasRead}
-use Rattle.answers.specs.Kept.{GoesOn, GoesOnPart, Resumes, ResumesIn, ResumesJournal, ResumesOffered, ResumesPart, WasResumed, starts_in}
+use Rattle.answers.specs.Kept.{GoesOn, GoesOnPart, Resumes, ResumesIn, ResumesJournal, ResumesOffered, ResumesPart, starts_in}
+use Rattle.answers.specs.Opened.{IsForFile}
 use Rattle.answers.specs.Offers.{RefusesReport, parts_told}
 use Rattle.answers.specs.OffersRead.{IsNoOffer, RefusesOffers}
 use Rattle.answers.proofs.Texts.{whole}
@@ -54,11 +55,11 @@ module _ {D : Type 0} (on : Ghosts D) (search : JobSettings) (now : D) where
     in-text t (Ok numbers) j first h = in-dp (t.program numbers) (t.own_value numbers) j.head.part j.head j.records first h
     in-text t (Err e) j first same = none.other (errors.Malformed 0) same
 
-    in-file : (read : Result JournalView Refusal) (first : ℕ) → MatchResult read (λ j. ResumesJournal on j first offers search now answer) (λ refusal. answer ≡ answers.Journal (error_of refusal)) → ⊥
+    in-file : (read : Result JournalView Refusal) (first : ℕ) → MatchResult read (λ j. ResumesJournal on offers search now j first answer) (λ refusal. answer ≡ answers.Journal (error_of refusal)) → ⊥
     in-file (Ok j) first h = let t = theory_of j.head.model in in-text t (t.spelled j.head.text) j first h
     in-file (Err refusal) first same = none.other (error_of refusal) same
 
-    not-resumed : WasResumed on offers search now answer → ⊥
+    not-resumed : IsForFile on (ResumesJournal on offers search now) now answer → ⊥
     not-resumed h = in-file (journal_of h.file) (after_head (frames_of h.file)) h.right
 
   no-fault : IsNone answers.ReadFault
@@ -69,11 +70,11 @@ module _ {D : Type 0} (on : Ghosts D) (search : JobSettings) (now : D) where
 
   module _ (before : D) where
     never-fault : (read : Result (List SettledView) InstanceError) → MatchResult read (λ rs. Resumes on (parts_told rs) search before now answers.ReadFault) (λ e. RefusesReport e answers.ReadFault × (now ≡ before)) → ⊥
-    never-fault (Ok rs) h = not-resumed (parts_told rs) answers.ReadFault no-fault h
+    never-fault (Ok rs) h = not-resumed (parts_told rs) answers.ReadFault no-fault h.0
     never-fault (Err e) h = h.0
 
     never-excess : (read : Result (List SettledView) InstanceError) → MatchResult read (λ rs. Resumes on (parts_told rs) search before now answers.TooLong) (λ e. RefusesReport e answers.TooLong × (now ≡ before)) → ⊥
-    never-excess (Ok rs) h = not-resumed (parts_told rs) answers.TooLong no-excess h
+    never-excess (Ok rs) h = not-resumed (parts_told rs) answers.TooLong no-excess h.0
     never-excess (Err e) h = h.0
 
     after-offers : (offers : List ReportView) (answer : Answer) (read : Result (List SettledView) InstanceError) → IsOkAnd read (λ rs. offers ≡ parts_told rs) → Resumes on offers search before now answer

@@ -4,11 +4,8 @@ use Rattle.dp_model.specs.Dp.{Dp}
 use Rattle.board_laws.specs.Board.{BoardState}
 use Rattle.board_laws.specs.GoodBoard.{IsGood}
 use Rattle.board_laws.specs.declared.settings.Settings.{Settings}
-use Rattle.solver_report.specs.declared.answer.Answer.{Answer}
-use Rattle.solver_report.specs.declared.answer.Answer.TheVariants as answers
 use Rattle.solver_report.specs.declared.answer.Counts.{Counts}
 use Rattle.solver_report.specs.declared.answer.Outcome.{Outcome}
-use Rattle.answers.specs.Answers.{Ends}
 use Rattle.answers.specs.Outcomes.{HasSearched, IsConcluded}
 use Rattle.answers.specs.Over.{IsOver}
 use Rattle.solver_words.specs.declared.job.JobSettings.{JobSettings}
@@ -24,9 +21,3 @@ in-words dp own search f first Trusted Keeps Other is good other outcome counts 
   trusted = λ t. subst (IsGood dp) is (good t);
   keeps = other h.board h.over h.keeps;
 }
-
--- what is told in other words is an answer in other words
-pub ends-in-words : (dp : Dp) (search : JobSettings) (Has Other : Outcome → Option Counts → Type 0) → ((outcome : Outcome) (counts : Option Counts) → Has outcome counts → Other outcome counts) → (answer : Answer) → Ends dp search Has answer → Ends dp search Other answer
-ends-in-words dp search Has Other f (answers.Searched outcome counts) h = (f outcome counts h.0, h.1)
-ends-in-words dp search Has Other f (answers.Covered outcome counts cover) h = (f outcome counts h.0, h.1)
-ends-in-words dp search Has Other f answer h = h

@@ -1,5 +1,5 @@
 -- What is answered to a search, from how it ended.
-use Rattle.std.proofs.Common.{◌≡◌, ℕ, ℤ, List, Bool, false, Option, is_some, Result, Ok, Err, IfOk, Vec, Global, sym, subst, ap, ◌∙◌, slice_index_or}
+use Rattle.std.proofs.Common.{◌≡◌, ℕ, ℤ, List, Bool, false, Option, is_some, Result, Ok, Err, IfOk, Vec, Global, sym, subst, ap, ◌∙◌}
 use Rattle.std.specs.List.{All}
 use Rattle.std.specs.declared.alloc.AllocError.{AllocError}
 use Rattle.disk.specs.declared.disk.Disk.{Ghosts}
@@ -12,13 +12,12 @@ use Rattle.board.specs.View.{BoardView}
 use Rattle.solver_report.specs.declared.answer.Answer.{Answer}
 use Rattle.solver_report.specs.declared.answer.Counts.{Counts}
 use Rattle.solver_report.specs.declared.answer.Outcome.{Outcome}
-use Rattle.answers.specs.Answers.{AreSized, Ends, HasSearchedFromStart, KeepsNone, Solves}
+use Rattle.answers.specs.Answers.{Ends, HasSearchedFromStart, KeepsNone, Solves}
 use Rattle.answers.specs.Outcomes.{HasSearched, IsTrueOf}
 use Rattle.answers.specs.Over.{IsOver}
 use Rattle.solver_words.specs.declared.job.JobSettings.{JobSettings}
-use Rattle.answers.proofs.Ending.{report-ends, counted-sized}
+use Rattle.answers.proofs.Ending.{report-ends}
 use Rattle.answers.proofs.Journaled.{has-none}
-use Rattle.search_workers.specs.Collected.{MayBeBook}
 use Rattle.search_workers.specs.Prepared.{IsPreparedDesk}
 use Rattle.search_workers.specs.declared.desk.Desk.{Desk}
 use Rattle.solver_cli.specs.Desks.{HaveBooksOf}
@@ -34,9 +33,13 @@ pub if-told : (P Q : Told → Type 0) → ((told : Told) → P told → Q told) 
 if-told P Q f (Ok told) p = f told p
 if-told P Q f (Err e) p = tt
 
--- what is prepared by the numbers of an instance has books of the same instance
-pub books-here : (meaning : List ℤ → Dp) (ns here : List ℤ) → ns ≡ here → (w : ℕ) (desks : List Desk) → All (IsPreparedDesk (meaning ns) w) desks → HaveBooksOf (meaning here) desks
-books-here meaning ns here at w desks all k d less = subst (λ n. MayBeBook (meaning n) (slice_index_or desks k d).book) at (all k d less).book
+-- desks that are prepared have books of the same program
+pub books-held : (dp : Dp) (w : ℕ) (desks : List Desk) → All (IsPreparedDesk dp w) desks → HaveBooksOf dp desks
+books-held dp w desks all k d less = (all k d less).book
+
+-- a board that is kept is good where it was
+pub good-kept : (meaning : List ℤ → Dp) (ns here : List ℤ) → ns ≡ here → (kept board : BoardView) → kept ≡ board → IsGood (meaning here) board.first → IsGood (meaning ns) kept.first
+good-kept meaning ns here at kept board shown good = subst (λ (b : BoardView). IsGood (meaning ns) b.first) (sym shown) (subst (λ n. IsGood (meaning n) board.first) (sym at) good)
 
 -- what is answered to it
 pub told-ends : (dp : Dp) (search : JobSettings) (Has : Outcome → Option Counts → Type 0) (ended : Result Told AllocError) (answer : Answer) → IsAnswerTo search ended answer → IfOk ended (λ told. Has told.0 told.1) → Ends dp search Has answer
@@ -48,10 +51,6 @@ module _ (dp : Dp) (own : List ℕ → Option ℤ) (search : JobSettings) (f : B
   pub told-true : IsGood dp f → (ended : Result Told AllocError) → IfOk ended (λ told. HasSearched dp own (λ settings. f) (IsGood dp f) search Keeps told.0 told.1) → IfOk ended (λ told. IsTrueOf dp own search.budget told.0)
   told-true good (Ok told) h = h.concluded.ends good
   told-true good (Err e) h = tt
-
-  pub told-sized : (ended : Result Told AllocError) → IfOk ended (λ told. HasSearched dp own (λ settings. f) (IsGood dp f) search Keeps told.0 told.1) → IfOk ended (λ told. AreSized told.1)
-  told-sized (Ok told) h = counted-sized dp h.board search.stats told.1 h.concluded.kept h.concluded.counted
-  told-sized (Err e) h = tt
 
   -- a search from the start on
   pub from-start : (Other : BoardState → Type 0) → f ≡ first_board dp f.settings → IsGood dp f → ((b : BoardState) → IsOver dp search f b → Keeps b → Other b)

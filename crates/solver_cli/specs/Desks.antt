@@ -16,8 +16,7 @@ use Rattle.solver_words.specs.declared.job.JobSettings.{JobSettings}
 abbrev pub book_for : Dp → JobSettings → Option BookView
 book_for dp search = option_map (λ words. record { words = dp.words; limit = words / search.workers; pages = [] }) search.cover_words
 
--- a desk for each worker, of a width that is positive and fits, with the children, the book and the parts of layers that are asked for; a refused width
--- exactly where it is not positive or does not fit
+-- a desk for each worker, of a width that is positive and fits, with the children, the book and the parts of layers that are asked for
 pub record AreCrew (dp : Dp) (w : ℕ) (search : JobSettings) (desks : Vec Desk Global) : Type 0 where
   pub count : vec_len desks ≡ search.workers
   pub prepared : All (IsPreparedDesk dp w) desks.items
@@ -26,10 +25,11 @@ pub record AreCrew (dp : Dp) (w : ℕ) (search : JobSettings) (desks : Vec Desk 
   pub parts : All (λ (desk : Desk). desk.parts ≡ search.parts) desks.items
   pub fits : IsWidth dp w
 
+-- such desks; a width is refused exactly where it is not positive or does not fit, and memory runs out only where it fits
 abbrev pub AreAllDesks : Dp → ℕ → JobSettings → Result (Vec Desk Global) PrepareError → Type 0
 AreAllDesks dp w search (Ok desks) = AreCrew dp w search desks
 AreAllDesks dp w search (Err Width) = IsWidth dp w → ⊥
-AreAllDesks dp w search (Err OutOfMemory) = Unit {0}
+AreAllDesks dp w search (Err OutOfMemory) = IsWidth dp w
 
 -- the books of desks, in order
 abbrev pub books_in : List Desk → List BookView

@@ -1,5 +1,5 @@
 -- A search from a kept board on.
-use Rattle.std.specs.Prelude.{◌≡◌, ℕ, ℤ, Bool, true, false, List, [], ◌∷◌, Option, Some, None, is_some, Result, Ok, Err}
+use Rattle.std.specs.Prelude.{◌≡◌, ℕ, ℤ, Bool, List, Option, Some, None, is_some, Result, Ok, Err}
 use Rattle.std.specs.declared.alloc.AllocError.{AllocError}
 use Rattle.disk.specs.declared.disk.Disk.{Ghosts}
 use Rattle.dp_model.specs.Dp.{Dp}
@@ -8,7 +8,6 @@ use Rattle.board_laws.specs.GoodBoard.{IsGood}
 use Rattle.board_laws.specs.declared.settings.Settings.{Settings}
 use Rattle.kept_board.specs.Kept.{IsKept}
 use Rattle.kept_board.specs.View.{KeptView}
-use Rattle.journal_bytes.specs.Base.{is_snapshot}
 use Rattle.journal_bytes.specs.Bodies.{RecordView}
 use Rattle.journal_bytes.specs.Journal.{HeadView}
 use Rattle.journal_bytes.specs.declared.head.Part.{Part}
@@ -67,12 +66,6 @@ IsAnswerTo search (Err e) answer = answer ≡ answers.OutOfMemory
 abbrev pub or_memory : Result (Outcome × Option Counts) AllocError → Result (Outcome × Option Counts) Answer
 or_memory (Ok told) = Ok told
 or_memory (Err e) = Err answers.OutOfMemory
-
--- whether a search may begin with the records, by the part of which their journal is: those of a part begin with a snapshot
-abbrev pub begins_with : Option Part → List RecordView → Bool
-begins_with None records = true
-begins_with (Some part) [] = false
-begins_with (Some part) (r ∷ rs) = is_snapshot r
 
 -- the answer without a cover to what was told of a search within a distance: its report, or that of the part
 abbrev pub told_in : Option Part → ℤ → Outcome → Option Counts → Answer

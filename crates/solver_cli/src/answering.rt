@@ -1,9 +1,9 @@
 ghost use Rattle.std.specs.Prelude.{◌≡◌, None, map, string_bytes};
-ghost use Rattle.problem_names.specs.Parts.{IsPart};
+ghost use Rattle.problem_names.specs.Parts.{IsPart, MayBePart};
 ghost use Rattle.problems.specs.Theories.{theory_of};
 ghost use Rattle.solver_words.specs.Possible.{IsPossible, MayDraw, MaySearch};
 ghost use Rattle.solver_words.specs.Words.{job_view};
-ghost use Rattle.answers.specs.Answers.{DigestsText, Draws, SolvesPart, SolvesText};
+ghost use Rattle.answers.specs.Answers.{DigestsText, Draws, SolvesText};
 ghost use Rattle.answers.specs.Covers.{cover_limit};
 ghost use Rattle.answers.specs.Ended.{IsInputAnswer, IsJobAnswer, IsRight, LeavesAfterReports, LeavesOfSearch, readings, text_limit};
 ghost use Rattle.answers.specs.Journals.{Attaches, IsUnwritten};
@@ -13,12 +13,12 @@ ghost use Rattle.answers.specs.Splits.{Splits};
 
 use crate::drawing::draw;
 use crate::keeping::read_kept;
-use crate::parting::part_text;
-use crate::replying::solve_text;
 use crate::resuming::resume;
 use crate::runner::Runner;
+use crate::solving::solve_text;
 use answers::{
-    answer_cover, answer_parts, answer_reports, digest_text, read_offers, split_journal, unread,
+    Subject, answer_cover, answer_parts, answer_reports, digest_text, read_offers, split_journal,
+    unread,
 };
 use disk::Disk;
 use problem_names::{ModelName, PartNumber};
@@ -66,13 +66,25 @@ fn answer_job<S: Source, D: Disk + Send, G: Gate + Sync, R: Threads + Wait + Syn
             settings,
             journal: None,
             part: None,
-        } => solve_input(run, model, settings, input, disk),
+        } => {
+            let subject = Subject {
+                name: model,
+                part: None,
+            };
+            solve_input(run, subject, settings, input, disk)
+        }
         Job::Solve {
             model,
             settings,
             journal: None,
             part: Some(part),
-        } => part_input(run, model, part, settings, input, disk),
+        } => {
+            let subject = Subject {
+                name: model,
+                part: Some(part),
+            };
+            solve_input(run, subject, settings, input, disk)
+        }
         Job::Solve {
             model,
             settings,
@@ -109,47 +121,25 @@ fn answer_job<S: Source, D: Disk + Send, G: Gate + Sync, R: Threads + Wait + Syn
     }
 }
 
-/// The answer to a search of the instance in the input that keeps no journal.
+/// The answer to a search of the instance in the input, or of a part of it, that keeps no journal.
 fn solve_input<S: Source, D: Disk + Send, G: Gate + Sync, R: Threads + Wait + Sync>(
     run: &Runner<'_, G, R>,
-    name: ModelName,
-    search: JobSettings,
-    input: &mut S,
-    disk: D,
-) -> (Answer, D)
-    requires { MaySearch search }
-    ensures answer { IsInputAnswer text_limit (SolvesText (theory_of name) name search) (readings S.left S.faults input.old input.new) result.0 }
-    ensures disk { result.1 ≡ disk }
-{
-    match read_all(run.alloc, input, TEXT_LIMIT) {
-        Ok(text) => {
-            let text = text.as_slice();
-            by_name!(name, solve_text::<D, G, R>(run, name, search, text, disk))
-        }
-        Err(error) => (unread(error), disk),
-    }
-}
-
-/// The answer to a search of a part of the instance in the input.
-fn part_input<S: Source, D: Disk + Send, G: Gate + Sync, R: Threads + Wait + Sync>(
-    run: &Runner<'_, G, R>,
-    name: ModelName,
-    part: PartNumber,
+    subject: Subject,
     search: JobSettings,
     input: &mut S,
     disk: D,
 ) -> (Answer, D)
     requires may { MaySearch search }
-    requires part { IsPart part }
-    ensures answer { IsInputAnswer text_limit (SolvesPart (theory_of name) name part search) (readings S.left S.faults input.old input.new) result.0 }
+    requires part { MayBePart subject.part }
+    ensures answer { IsInputAnswer text_limit (SolvesText (theory_of subject.name) subject.name subject.part search) (readings S.left S.faults input.old input.new) result.0 }
     ensures disk { result.1 ≡ disk }
 {
     match read_all(run.alloc, input, TEXT_LIMIT) {
         Ok(text) => {
             let text = text.as_slice();
             by_name!(
-                name,
-                part_text::<D, G, R>(run, name, part, search, text, disk)
+                subject.name,
+                solve_text::<D, G, R>(run, subject, search, text, disk)
             )
         }
         Err(error) => (unread(error), disk),
@@ -182,7 +172,8 @@ fn keep_input<S: Source, D: Disk + Send, G: Gate + Sync, R: Threads + Wait + Syn
     }
 }
 
-/// The answer to a search that goes on from the journal in the named file, after the solutions of the reports in the input were offered to it.
+/// The answer to a search that goes on from the journal in the named file, after the solutions of the reports in the input were offered to
+/// it.
 fn resume_input<S: Source, D: Disk + Send, G: Gate + Sync, R: Threads + Wait + Sync>(
     run: &Runner<'_, G, R>,
     path: &str,

@@ -5,7 +5,7 @@ ghost use Rattle.answers.specs.Answers.{Draws};
 
 use crate::runner::Runner;
 use crate::solving::solve;
-use answers::printed;
+use answers::{Subject, printed};
 use disk::Disk;
 use dp_model::CutKind;
 use problem_names::ModelName;
@@ -47,7 +47,10 @@ pub fn draw<P: Problem, D: Disk + Send, G: Gate + Sync, R: Threads + Wait + Sync
     ensures disk { result.1 ≡ disk }
 {
     match P::generate(run.alloc, n, seed) {
-        Ok(Some(model)) if solved => solve(run, name, model, BY_DEFAULT, disk),
+        Ok(Some(model)) if solved => {
+            let whole = Subject { name, part: None };
+            solve(run, whole, model, BY_DEFAULT, disk)
+        }
         Ok(Some(model)) => (printed(run.alloc, &model), disk),
         Ok(None) => unreachable!(),
         Err(_) => (Answer::OutOfMemory, disk),

@@ -10,12 +10,12 @@ ghost use Rattle.answers.specs.Kept.{RepliesKept, SolvesKept, head_of};
 ghost use Rattle.solver_cli.specs.Journals.{EndsKept, HasBegunOn, LeavesNamed, LeavesOfText};
 ghost use Rattle.solver_cli.specs.Starts.{HasBegun};
 
+use crate::ending::answer_of;
 use crate::limits::SNAPSHOT_EVERY;
 use crate::runner::Runner;
 use crate::searching::search_from;
-use crate::solving::answer_of;
 use crate::starting::{Start, begin_search};
-use answers::begin_journal;
+use answers::{Subject, begin_journal};
 use disk::Disk;
 use journal_file::Tail;
 use kept_board::Kept;
@@ -113,17 +113,16 @@ fn search_begun<P: Problem, D: Disk + Send, G: Gate + Sync, R: Threads + Wait + 
     ensures covered { IsCovered name (P.theory.canonical (P.numbers (arc_value start.model))) result.0 }
     ensures left { HasLeftBegun D.Disk (P.meaning (P.numbers (arc_value start.model))) (head_of P.theory name search.within (P.numbers (arc_value start.model))) result.1 }
     ensures names { D.names result.1 ≡ D.names disk }
-    ensures start { D.start result.1 ≡ D.start disk }
 {
     let Start {
         model,
         board,
         mut desks,
     } = start;
+    let whole = &*model;
     let kept = Kept::new(board, disk, Some(tail), SNAPSHOT_EVERY);
-    let (ended, disk) = search_from(run, kept, &mut desks, &*model, search);
-    (
-        answer_of(run.alloc, name, &*model, ended, search, desks),
-        disk,
-    )
+    let (ended, disk) = search_from(run, kept, &mut desks, whole, search);
+    let subject = Subject { name, part: None };
+    let answer = answer_of(run.alloc, subject, whole, whole, ended, search, desks);
+    (answer, disk)
 }

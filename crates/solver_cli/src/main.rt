@@ -19,11 +19,10 @@
 mod answering;
 mod books;
 mod drawing;
+mod ending;
 mod keeping;
 mod limits;
 mod offering;
-mod parting;
-mod replying;
 mod resuming;
 mod run;
 mod runner;

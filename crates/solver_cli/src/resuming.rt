@@ -9,14 +9,14 @@ ghost use Rattle.solver_words.specs.Possible.{MaySearch};
 ghost use Rattle.part_reports.specs.Reports.{AreTested, report_view};
 ghost use Rattle.answers.specs.Kept.{going_on, LeavesAfterResume, MayBeAdded, MayFollow, Resumes, ResumesIn, ResumesJournal};
 ghost use Rattle.solver_cli.specs.Journals.{IsOpened, LeavesOpened, TouchesNothing};
-ghost use Rattle.solver_cli.specs.Searches.{IsToldOn, begins_with, or_memory, report_in};
+ghost use Rattle.solver_cli.specs.Searches.{IsToldOn, or_memory, report_in};
 ghost use Rattle.solver_cli.specs.Starts.{DoesNotTake, GoesOnFrom};
 
 use crate::limits::SNAPSHOT_EVERY;
 use crate::offering::search_offered;
 use crate::runner::Runner;
 use crate::starting::{Start, go_on};
-use answers::{open_journal, part_outcome, searched_part};
+use answers::{has_starts, open_journal, part_outcome, searched_part};
 use disk::Disk;
 use dp_model::{DpModel, OutOfMemory};
 use journal_bytes::{Head, Records};
@@ -41,9 +41,9 @@ struct Asked<'a> {
     offers: &'a [PartReport],
 }
 
-/// Goes on with the search whose journal is in the named file, within the distance of the journal, after the solutions of the reports were offered to it. Otherwise answers why
-/// it does not go on: the file is no journal, its head spells no instance, the width is refused, a record may not follow, or an offered solution is none with its value. No
-/// cover is asked for.
+/// Goes on with the search whose journal is in the named file, within the distance of the journal, after the solutions of the reports were
+/// offered to it. Otherwise answers why it does not go on: the file is no journal, its head spells no instance, the width is refused, a
+/// record may not follow, or an offered solution is none with its value. No cover is asked for.
 pub fn resume<D: Disk + Send, G: Gate + Sync, R: Threads + Wait + Sync>(
     run: &Runner<'_, G, R>,
     path: &str,
@@ -80,7 +80,7 @@ fn resume_journal<D: Disk + Send, G: Gate + Sync, R: Threads + Wait + Sync>(
     requires distance { IsDistance head.now.within }
     requires within { records.now.within ≡ head.now.within }
     requires opened { IsOpened D.Disk (head_view tail.version head.now) records.now.records disk tail }
-    ensures resumes { (result.0 ≡ Answer.OutOfMemory) ⊎ ResumesJournal D.Disk (journal_view (head.now, records.now, tail)) records.now.first (map report_view asked.entry.offers.now) asked.entry.search result.1 result.0 }
+    ensures resumes { (result.0 ≡ Answer.OutOfMemory) ⊎ ResumesJournal D.Disk (map report_view asked.entry.offers.now) asked.entry.search result.1 (journal_view (head.now, records.now, tail)) records.now.first result.0 }
     ensures refused { TouchesNothing disk result.1 result.0 }
     ensures left { LeavesOpened D.Disk (MayFollow (head_view tail.version head.now) records.now.records) (head_view tail.version head.now) records.now.records disk result.1 }
 {
@@ -106,7 +106,7 @@ fn resume_on<P: Problem, D: Disk + Send, G: Gate + Sync, R: Threads + Wait + Syn
     requires distance { IsDistance head.now.within }
     requires within { records.now.within ≡ head.now.within }
     requires opened { IsOpened D.Disk (head_view tail.version head.now) records.now.records disk tail }
-    ensures resumes { (result.0 ≡ Answer.OutOfMemory) ⊎ ResumesJournal D.Disk (journal_view (head.now, records.now, tail)) records.now.first (map report_view asked.entry.offers.now) asked.entry.search result.1 result.0 }
+    ensures resumes { (result.0 ≡ Answer.OutOfMemory) ⊎ ResumesJournal D.Disk (map report_view asked.entry.offers.now) asked.entry.search result.1 (journal_view (head.now, records.now, tail)) records.now.first result.0 }
     ensures refused { TouchesNothing disk result.1 result.0 }
     ensures left { LeavesOpened D.Disk (MayFollow (head_view tail.version head.now) records.now.records) (head_view tail.version head.now) records.now.records disk result.1 }
 {
@@ -140,7 +140,7 @@ fn resume_model<P: Problem, D: Disk + Send, G: Gate + Sync, R: Threads + Wait + 
     ensures refused { TouchesNothing disk result.1 result.0 }
     ensures left { LeavesOpened D.Disk (MayBeAdded (P.meaning (P.numbers model)) head.now.within records.now.records) (head_view tail.version head.now) records.now.records disk result.1 }
 {
-    if !begins_with(head, records) {
+    if !has_starts(head, records) {
         let refused = JournalError::Malformed {
             offset: records.first(),
         };
@@ -186,8 +186,8 @@ fn resume_search<P: Problem, D: Disk + Send, G: Gate + Sync, R: Threads + Wait +
     }
 }
 
-/// The start of a search that goes on from the records, as `go_on` says, whose offers are all feasible solutions with their values. Otherwise the
-/// answer: that of `go_on`, or the first offer that is none is refused.
+/// The start of a search that goes on from the records, as `go_on` says, whose offers are all feasible solutions with their values.
+/// Otherwise the answer: that of `go_on`, or the first offer that is none is refused.
 fn taking<M: DpModel>(
     alloc: Global,
     model: M,
@@ -220,19 +220,6 @@ fn going_on(head: &Head, search: JobSettings) -> JobSettings
     JobSettings {
         within: head.within,
         ..search
-    }
-}
-
-/// Whether a search may begin with the records: those of the journal of a part begin with a snapshot.
-fn begins_with(head: &Head, records: &Records) -> bool
-    ensures { result ≡ begins_with head.now.part records.now.records }
-{
-    if head.part.is_none() {
-        return true;
-    }
-    match records.as_slice() {
-        [first, ..] => first.is_snapshot(),
-        [] => false,
     }
 }
 

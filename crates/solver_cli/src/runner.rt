@@ -10,6 +10,7 @@ pub struct Runner<'a, G, R> {
     pub gate: &'a G,
 }
 
+// Its fields are borrowed, so nothing is freed.
 impl<G, R> Drop for Runner<'_, G, R> {
     fn drop(self) {
         let Runner {

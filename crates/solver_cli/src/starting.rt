@@ -67,8 +67,8 @@ pub fn begin_search<M: DpModel>(
     }
 }
 
-/// The start of a search of the instance that goes on from the records, within their distance. Otherwise the answer: the width is refused as in
-/// `begin_search`, then the first record that may not follow is refused, or there is no memory.
+/// The start of a search of the instance that goes on from the records, within their distance. Otherwise the answer: the width is refused
+/// as in `begin_search`, then the first record that may not follow is refused, or there is no memory.
 pub fn go_on<M: DpModel>(
     alloc: Global,
     model: M,

@@ -3,7 +3,8 @@ use Rattle.dp_model.specs.Laws.{IsLawful}
 use Rattle.journal_bytes.specs.Journal.{journal_view}
 use Rattle.part_text.specs.Reports.{settled_view}
 use Rattle.problem_theory.specs.Theory.{Agrees}
-use Rattle.answers.specs.ReportsJoined.{HasJoined, JoinsIn, starts_for}
+use Rattle.answers.specs.Kept.{starts_for}
+use Rattle.answers.specs.ReportsJoined.{HasJoined, JoinsIn}
 use Rattle.answers.proofs.ReportsJoined.{joins-told}
 use Rattle.answers.proofs.reporting.join_model.Given as given
 use Rattle.answers.proofs.reporting.join_model.Goals as goal

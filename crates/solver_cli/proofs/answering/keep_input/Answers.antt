@@ -1,4 +1,4 @@
-use Rattle.std.proofs.Common.{arith, List, ℕ, subst, sym}
+use Rattle.std.proofs.Common.{arith, subst, sym}
 use Rattle.answers.specs.Ended.{WasRead, readings, text_limit}
 use Rattle.solver_cli.proofs.Left.{left_search}
 use Rattle.solver_cli.proofs.answering.keep_input.Goals as goal

@@ -2,9 +2,10 @@ use Rattle.std.proofs.Common.{Err, ap, map}
 use Rattle.journal_file.specs.declared.error.JournalError.{JournalError}
 use Rattle.journal_bytes.specs.Journal.{head_view}
 use Rattle.part_reports.specs.Reports.{report_view}
-use Rattle.answers.specs.Kept.{MayFollow}
+use Rattle.answers.specs.Kept.{MayFollow, ResumesJournal}
+use Rattle.answers.proofs.Opened.{for-unopened}
 use Rattle.answers.proofs.Journaled.{left-resumed, left-unwritten, still-attaches}
-use Rattle.solver_cli.proofs.GoingOn.{answered, is-found-still, not-opened}
+use Rattle.solver_cli.proofs.GoingOn.{answered, is-found-still}
 use Rattle.solver_cli.proofs.resuming.resume.Goals as goal
 
 pub returns-in-Ok-clause-resumes : goal.returns-in-Ok-clause-resumes
@@ -24,7 +25,10 @@ returns-in-Ok-clause-left g c =
     (still-attaches g.D.Disk c.args.path.now c.args.disk made now c.in-Ok.ensures.began l.same_names c.open_journal.ensures.attaches) found l.gone
 
 pub returns-in-Err-clause-resumes : goal.returns-in-Err-clause-resumes
-returns-in-Err-clause-resumes g c = not-opened g.D.Disk (map report_view c.args.offers.now) c.args.search c.args.disk c.open_journal.new.disk c.in-Err.error c.in-Err.ensures.opened (λ is. c.in-Err.ensures.disk (ap (λ (e : JournalError). Err e) is)) c.open_journal.ensures.unwritten
+returns-in-Err-clause-resumes g c = (
+  for-unopened g.D.Disk (ResumesJournal g.D.Disk (map report_view c.args.offers.now) c.args.search c.open_journal.new.disk) c.args.disk c.open_journal.new.disk c.in-Err.error c.in-Err.ensures.opened (λ is. c.in-Err.ensures.disk (ap (λ (e : JournalError). Err e) is)),
+  c.open_journal.ensures.unwritten,
+)
 
 pub returns-in-Err-clause-left : goal.returns-in-Err-clause-left
 returns-in-Err-clause-left g c = left-unwritten g.D.Disk c.args.path.now c.args.disk c.open_journal.new.disk c.open_journal.ensures.attaches c.open_journal.ensures.unwritten
