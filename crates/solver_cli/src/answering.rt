@@ -65,9 +65,24 @@ fn answer_job<S: Source, D: Disk + Send, G: Gate + Sync, R: Threads + Wait + Syn
             model,
             settings,
             journal: None,
-            part,
+            part: None,
         } => {
-            let subject = Subject { name: model, part };
+            let subject = Subject {
+                name: model,
+                part: None,
+            };
+            solve_input(run, subject, settings, input, disk)
+        }
+        Job::Solve {
+            model,
+            settings,
+            journal: None,
+            part: Some(part),
+        } => {
+            let subject = Subject {
+                name: model,
+                part: Some(part),
+            };
             solve_input(run, subject, settings, input, disk)
         }
         Job::Solve {
