@@ -18,6 +18,7 @@ import sys
 import tempfile
 from concurrent.futures import ThreadPoolExecutor
 from pathlib import Path
+from threading import Lock
 
 sys.dont_write_bytecode = True
 sys.path.insert(0, str(Path(__file__).resolve().parent.parent.parent / "python"))
@@ -26,6 +27,9 @@ from hammockdove.progress import Tracker
 
 HEADS = ("Search", "Whole: subproblems", "seconds", "After", "Open", "Parts", "Sum of subproblems", "Sum to whole", "Longest part", "Longest to whole",
          "Sum of seconds", "Longest part, seconds", "Split, seconds")
+
+# A journal is locked while a program reads it, so one part is split off at a time.
+SPLITTING = Lock()
 
 
 class Run:
@@ -65,7 +69,8 @@ def part(program, journal, place, options, room, given=os.devnull):
     """The seconds of a split, and the run of the part with this place, its number and how many there are. It may be given reports."""
     index, of = place
     path = os.path.join(room, f"part-{index}-of-{of}")
-    begun = Run([program, "split", journal, "--part", f"{index}/{of}"])
+    with SPLITTING:
+        begun = Run([program, "split", journal, "--part", f"{index}/{of}"])
     with open(path, "wb") as file:
         file.write(begun.output)
     run = Run([program, "resume", path, *options, "--stats"], given)
