@@ -1,10 +1,11 @@
 #!/usr/bin/env python3
 """Makes covers of drawn instances and has them checked.
 
-    tools/edge/covers.py PROGRAM TIMES SEED [OTHER]
+    tools/edge/covers.py PROGRAM TIMES SEED [OTHER [MODELS]]
 
 PROGRAM is the solver's binary. Each search has one to four workers, a width from 1 to 20, one of both cutsets, a distance from 0 to 20, and books of a drawn number of words, 0 among them. `check` has to accept each cover. OTHER
-is a second program with the same command `check`, which has to accept it too where it knows the problem.
+is a second program with the same command `check`, which has to accept it too where it knows the problem. MODELS are the problems, with commas between them. With a
+build for tests that answers `out of memory` where a cover from books fails its test, each such cover is told as a wrong one.
 """
 import os
 import random
@@ -36,11 +37,12 @@ def drawn_words(draw, model):
 
 def main():
     program, times, draw = os.path.abspath(sys.argv[1]), int(sys.argv[2]), random.Random(int(sys.argv[3]))
-    others = [sys.argv[4]] if len(sys.argv) > 4 else []
+    others = sys.argv[4:5]
+    models = sys.argv[5].split(",") if len(sys.argv) > 5 else list(SIZES)
     bad, seen = 0, {}
     with tempfile.TemporaryDirectory() as folder:
         for _ in range(times):
-            model = draw.choice(list(SIZES))
+            model = draw.choice(models)
             drawn = "generate %s %d %d" % (model, draw.randint(*SIZES[model]), draw.randint(0, 2**31 - 1))
             given = run(program, drawn, folder)[1]
             words = drawn_words(draw, model)

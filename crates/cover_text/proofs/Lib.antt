@@ -10,6 +10,7 @@ pub mod RoundTrip
 pub mod PrintedHeads
 pub mod OutputsRead
 pub mod Writing
+pub mod Zeros
 pub mod InTurn
 pub mod EachName
 pub mod Ends

@@ -1,6 +1,6 @@
 //! The sections of a cover, printed.
 
-ghost use Rattle.std.specs.Prelude.{◌≡◌, ◌<◌, ◌++◌, length, decimal, flat_map, option_map, OnOk};
+ghost use Rattle.std.specs.Prelude.{◌≡◌, ◌<◌, ◌≤◌, ◌++◌, true, pos, length, drop, replicate, decimal, flat_map, option_map, OnOk, IfOk};
 ghost use Rattle.dp_model.specs.Lists.{Each};
 ghost use Rattle.bound_cover.specs.Clamping.{AreWritable};
 ghost use Rattle.bound_cover.specs.Exploring.{layer_of};
@@ -47,8 +47,39 @@ fn push_after(out: &mut Vec<u8>, number: i64) -> Result<(), OutOfMemory>
     push_long(out, number)
 }
 
-/// Appends the words of a row.
-fn push_words(out: &mut Vec<u8>, words: &[i64]) -> Result<(), OutOfMemory>
+/// Whether words begin with eight zeros.
+fn begins_with_zeros(words: &[i64]) -> bool
+    ensures { result ≡ true → words.now ≡ replicate 8 (pos 0) ++ drop 8 words.now }
+{
+    if words.len() < 8 {
+        return false;
+    }
+    'words: for i in 0..8 {
+        if words[i] != 0 {
+            return false;
+        }
+    }
+    true
+}
+
+/// Appends the zeros with which words begin, eight at a time, and tells how many of the words these are.
+fn push_zeros(out: &mut Vec<u8>, words: &[i64]) -> Result<usize, OutOfMemory>
+    ensures pushed { IfOk result (λ done. out.new.items ++ flat_map printed_number (drop done words.now) ≡ out.old.items ++ flat_map printed_number words.now) }
+    ensures fits { IfOk result (λ done. Each IsWord (drop done words.now) → Each IsWord words.now) }
+    ensures few { IfOk result (λ done. done ≤ length words.now) }
+{
+    let count = words.len() / 8;
+    'eights: for block in 0..count {
+        if !begins_with_zeros(&words[8 * block..]) {
+            return Ok(8 * block);
+        }
+        push_text(out, " 0 0 0 0 0 0 0 0")?;
+    }
+    Ok(8 * count)
+}
+
+/// Appends words.
+fn push_each(out: &mut Vec<u8>, words: &[i64]) -> Result<(), OutOfMemory>
     ensures pushed { OnOk result (out.new.items ≡ out.old.items ++ flat_map printed_number words.now) }
     ensures fits { OnOk result (Each IsWord words.now) }
 {
@@ -56,6 +87,15 @@ fn push_words(out: &mut Vec<u8>, words: &[i64]) -> Result<(), OutOfMemory>
         push_after(out, *word)?;
     }
     Ok(())
+}
+
+/// Appends the words of a row. Many rows begin with zeros, for what is decided already.
+fn push_words(out: &mut Vec<u8>, words: &[i64]) -> Result<(), OutOfMemory>
+    ensures pushed { OnOk result (out.new.items ≡ out.old.items ++ flat_map printed_number words.now) }
+    ensures fits { OnOk result (Each IsWord words.now) }
+{
+    let done = push_zeros(out, words)?;
+    push_each(out, &words[done..])
 }
 
 /// Appends the target of an arc.
