@@ -1,12 +1,12 @@
 -- A table whose chains run through the places of the rows. Rows are compared from the first live cell on.
 use Rattle.std.specs.Int.{IsPowerOfTwo}
-use Rattle.std.specs.Prelude.{◌≡◌, ◌≢◌, ◌⊎◌, ℕ, zero, suc, ◌+◌, ◌-◌, ◌<◌, ◌≤◌, nat_eq, ◌/◌, ◌^◌, ℤ, Bool, true, cond, List, length, slice_index_or, bit_and}
+use Rattle.std.specs.Prelude.{◌≡◌, ◌≢◌, ◌⊎◌, ℕ, zero, suc, ◌+◌, ◌-◌, ◌<◌, ◌≤◌, nat_eq, ◌/◌, ◌^◌, ℤ, Bool, true, cond, List, length, slice_index_or, bit_and, bit_xor}
 use Rattle.layer_candidates.specs.Rows.{live_at}
 use Rattle.dp_model.specs.Folds.{spread}
 
--- the slot of a fold among this many: some of the upper bits of a product, which all lower bits of the fold reach
+-- the slot of a fold among this many: some of the upper bits of a product, which all bits of the fold reach
 abbrev pub slot_of : ℕ → ℕ → ℕ
-slot_of fold size = bit_and (spread fold / 2 ^ 32) (size - 1)
+slot_of fold size = bit_and (spread (bit_xor fold (fold / 2 ^ 32)) / 2 ^ 32) (size - 1)
 
 -- one more than the greatest place below n that passes, or 0 where none does
 abbrev pub top : (ℕ → Bool) → ℕ → ℕ

@@ -36,13 +36,14 @@ pub struct WayTable {
 // 2^64 divided by the golden ratio, made odd.
 const FACTOR: u64 = 0x9e37_79b9_7f4a_7c15;
 
-/// The slot of a fold, of a number of slots that is a power of two. A product spreads the fold, of which any bits may differ.
+/// The slot of a fold, of a number of slots that is a power of two. Folds may differ in any of their bits, and a product spreads these.
 fn slot(fold: u64, size: usize) -> usize
     requires { IsPowerOfTwo size }
     ensures slot { result ≡ slot_of fold size }
     ensures within { result < size }
 {
-    (fold.wrapping_mul(FACTOR) >> 32) as usize & (size - 1)
+    let halves = fold ^ (fold >> 32);
+    (halves.wrapping_mul(FACTOR) >> 32) as usize & (size - 1)
 }
 
 /// The number of slots that serves for a number of rows: a power of two, at most `slots`. It is no less than the rows, unless

@@ -1,17 +1,21 @@
-use Rattle.std.proofs.Common.{rules, ◌≡◌, ℕ, ℤ, ◌<◌, ◌∷◌, ◌++◌, [], List, drop, length, take, sym, ap, subst, ◌∙◌, inl}
+use Rattle.std.proofs.Common.{rules, ◌≡◌, ℕ, ℤ, ◌<◌, ◌∷◌, ◌++◌, [], List, drop, length, take, sym, ap, subst, ◌∙◌, inl, arith}
 use Rattle.std.proofs.lemmas.List.{with_items_is}
 use Rattle.layer_candidates.specs.declared.way.Way.{Way}
 use Rattle.layer_candidates.specs.HeldRows.{held_row}
-use Rattle.layer_candidates.specs.Rows.{live_at}
-use Rattle.layer_candidates.specs.Table.{IsRowFound, IsPlaced}
+use Rattle.layer_candidates.specs.Table.{HaveFold, IsRowFound, IsPlaced}
 use Rattle.layer_candidates.specs.Ways.{rows_of, way_row, all_reached, bettered, AreJoined}
-use Rattle.layer_candidates.proofs.Joined.{zeros-same, pushed-here, pushed-joined, pushed-list, rows-bettered, length-bettered, bettered-before, bettered-joined, bettered-list, strict}
+use Rattle.layer_candidates.proofs.Joined.{zeros-same, pushed-joined, pushed-list, rows-bettered, length-bettered, bettered-before, bettered-joined, bettered-list, strict}
 use Rattle.layer_candidates.proofs.table.WayTable.take_in.Goals as goal
 
 -- what was found, in the words of the arguments
 found : (region : _) (live : ℕ) (ways : List Way) (row new : List ℤ) (place : ℕ) → new ≡ drop live row
     → IsRowFound (way_row region ways) live (length ways) new place → IsRowFound (way_row region ways) live (length ways) (drop live row) place
 found region live ways row new place is h = subst (λ (n : List ℤ). IsRowFound (way_row region ways) live (length ways) n place) is h
+
+pub find-place-requires-clause-fold : goal.find-place-requires-clause-fold
+find-place-requires-clause-fold c =
+    let a = c.args in
+    subst (λ (n : List ℤ). HaveFold (way_row a.region.now a.self.now.ways.items) a.self.now.live (length a.self.now.ways.items) n a.way.hash a.self.now.folds.items) (sym c.live_cells_of-new.ensures) c.requires.hash
 
 pub returns-then-place-count-clause-joined : goal.returns-then-place-count-clause-joined
 returns-then-place-count-clause-joined c = λ dp k j one.
