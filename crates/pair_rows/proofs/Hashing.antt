@@ -1,5 +1,5 @@
 -- Hashes: polynomials of rows, cell by cell and after a step.
-use Rattle.std.proofs.Common.{◌≡◌, ℕ, suc, ◌+◌, ◌-◌, ◌<◌, ◌≤◌, ℤ, pos, ◌+ℤ◌, ◌-ℤ◌, neg_ℤ, FitsSigned, to_z, of_z, w64, List, [], ◌∷◌, ◌++◌, length, take, drop, map, replicate, get_or, refl, arith, ap, sym, subst, ◌∙◌, append_assoc}
+use Rattle.std.proofs.Common.{◌≡◌, ℕ, zero, suc, ◌+◌, ◌-◌, ◌<◌, ◌≤◌, ℤ, pos, ◌+ℤ◌, ◌-ℤ◌, neg_ℤ, FitsSigned, to_z, of_z, w64, List, [], ◌∷◌, ◌++◌, length, take, drop, map, replicate, get_or, refl, arith, ap, sym, subst, ◌∙◌, append_assoc}
 use Rattle.std.specs.Int.{int_wrap}
 use Rattle.std.specs.Prelude.{◌*ℤ◌}
 use Rattle.std.proofs.Math.Seq.{drop-append_seam}
@@ -100,7 +100,7 @@ mapped-done f rows k items h before =
 
 mapped-at : {X : Type 0} (f : List X → ℤ) (rows : List (List X)) (k : ℕ) (z : ℤ) → k < length rows → get_or (map f rows) k z ≡ f (row_at rows k)
 mapped-at f [] k z h = absurd (omega arith)
-mapped-at f (row ∷ rows) 0 z h = refl
+mapped-at f (row ∷ rows) zero z h = refl
 mapped-at f (row ∷ rows) (suc k) z h = mapped-at f rows k z (omega arith)
 
 row-shifts : (d n k : ℕ) (ps : List PairValues) (cells : List ℤ) → k < n → cells ≡ shifts_of d ps → row_at (rows_of n cells) k ≡ shifts_of d (row_at (rows_of n ps) k)
