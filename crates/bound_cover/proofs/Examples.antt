@@ -27,6 +27,7 @@ one_item = record {
   rough = λ k s. cond (nat_lt k 1) (Some (pos (left s * 4))) (Some (pos 0));
   rank = λ k s. pos (left s);
   bucket = λ k s. 0;
+  hash = λ k s. 0;
 }
 
 abbrev arc : ℕ → Option ℕ → CoverArc

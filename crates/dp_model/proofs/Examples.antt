@@ -44,6 +44,7 @@ three_items = record {
   rough = λ k s. Some (pos (filled k (left s) (1 ∷ 0 ∷ 2 ∷ [])));
   rank = λ k s. pos (left s);
   bucket = λ k s. 0;
+  hash = λ k s. 0;
 }
 
 value-0-1-1 : value_of three_items (0 ∷ 1 ∷ 1 ∷ []) ≡ pos 120

@@ -17,6 +17,7 @@ pub record Dp : Type 0 where
   pub rough : ℕ → List ℤ → Option ℤ
   pub rank : ℕ → List ℤ → ℤ
   pub bucket : ℕ → List ℤ → ℕ
+  pub hash : ℕ → List ℤ → ℕ
 
 -- the decision may be taken at the layer in the state
 pub record IsAllowed (dp : Dp) (k : ℕ) (s : List ℤ) (d : ℕ) : Type 0 where

@@ -3,7 +3,7 @@
 //!
 //! It stands on std alone. Its definitions (prefix, state and value, feasible solution, completion, continuation, frontier
 //! cover, bounds, counts) speak of lists of decisions only. Every other crate uses these definitions.
-//! `DpModel` is the interface of a problem, `walk` follows decisions from the root, `Sub` is a subproblem in memory, and
+//! `DpModel` is the interface of a problem, `walk` follows decisions from the root, `solution_value` those of a whole solution, `Sub` is a subproblem in memory, and
 //! `fold` hashes a row.
 //!
 //! ```
@@ -29,4 +29,4 @@ pub use model::{DpModel, Extended};
 pub use std::alloc::AllocError as OutOfMemory;
 pub use sub::Sub;
 pub use theory::{best_is_best, best_is_unique};
-pub use walking::walk;
+pub use walking::{solution_value, walk};

@@ -21,7 +21,7 @@ pub struct Extended {
 /// program that these numbers spell. Each call answers as this program does, and the program meets the laws: `vars`, `words`
 /// and `choices` are at most 1,024; cells, gains, gaps, rough bounds and the root value are at most 2^50 in size.
 ///
-/// `covers_within`, `extend`, `rough_by_rank`, `first_live` and `next_choice` are there for speed. Each has a body that uses
+/// `covers_within`, `extend`, `next_hash`, `rough_by_rank`, `first_live` and `next_choice` are there for speed. Each has a body that uses
 /// the other calls. A problem replaces this body if a shorter way is known.
 pub trait DpModel: Send + Sync + Drop {
     /// The numbers that describe the instance.
@@ -100,6 +100,12 @@ pub trait DpModel: Send + Sync + Drop {
         requires { IsStateOf (meaning (numbers self.now)) k s.now }
         ensures { result ≡ (meaning (numbers self.now)).bucket k s.now };
 
+    /// The hash of a state of layer `k`, by which the layer finds the state again. Equal states have equal hashes, and others
+    /// should differ in theirs.
+    fn hash(&self, k: usize, s: &[i64]) -> u64
+        requires { IsStateOf (meaning (numbers self.now)) k s.now }
+        ensures { result ≡ (meaning (numbers self.now)).hash k s.now };
+
     /// Whether the row, which has `words` cells, is a state of layer `k`. `k` is at most `vars`.
     fn is_state(&self, k: usize, s: &[i64]) -> bool
         requires layer { k ≤ (meaning (numbers self.now)).vars }
@@ -160,6 +166,18 @@ pub trait DpModel: Send + Sync + Drop {
         let gain = self.gain(k, s, d);
         let rank = self.rank(k + 1, out);
         Some(Extended { gain, rank })
+    }
+
+    /// The hash of `next`, the state of layer `k + 1` that decision `d` leads to. The caller passes the hash of `s`, so that a
+    /// problem can answer without reading whole rows.
+    fn next_hash(&self, k: usize, s: &[i64], hash: u64, d: u32, next: &[i64]) -> u64
+        requires state { IsTrue ((meaning (numbers self.now)).is_state k s.now) }
+        requires hash { hash ≡ (meaning (numbers self.now)).hash k s.now }
+        requires allowed { IsAllowed (meaning (numbers self.now)) k s.now d }
+        requires next { next.now ≡ (meaning (numbers self.now)).step k s.now d }
+        ensures { result ≡ (meaning (numbers self.now)).hash (k + 1) next.now }
+    {
+        self.hash(k + 1, next)
     }
 
     /// The rough bound of `s`, whose rank the caller passes.

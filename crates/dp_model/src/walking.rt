@@ -1,5 +1,6 @@
 ghost use Rattle.std.specs.Prelude.{◌≡◌, ◌<◌, length, IsTrue};
 ghost use Rattle.dp_model.specs.Decided.{DecisionGives};
+ghost use Rattle.dp_model.specs.Solution.{SolutionGives};
 ghost use Rattle.dp_model.specs.Walked.{WalkGives};
 
 use crate::model::DpModel;
@@ -55,4 +56,22 @@ pub fn walk<M: DpModel>(
         value += gained;
     }
     Some(value)
+}
+
+/// The value of the decisions, or `None` exactly if they are no feasible solution. `out` and `spare` have `words` cells, and
+/// both are written over. It takes no memory.
+pub fn solution_value<M: DpModel>(
+    model: &M,
+    decisions: &[u32],
+    out: &mut [i64],
+    spare: &mut [i64],
+) -> Option<i64>
+    requires cells { length out.old ≡ (M.meaning (M.numbers model.now)).words }
+    requires spare_cells { length spare.old ≡ (M.meaning (M.numbers model.now)).words }
+    ensures { SolutionGives (M.meaning (M.numbers model.now)) decisions.now result }
+{
+    if decisions.len() != model.vars() {
+        return None;
+    }
+    walk(model, decisions, out, spare)
 }

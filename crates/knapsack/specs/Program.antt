@@ -40,6 +40,7 @@ program_of i = record {
   rough = λ k s. Some (pos (rough_from i.items k (left s)));
   rank = λ k s. pos (left s);
   bucket = λ k s. 0;
+  hash = λ k s. left s;
 }
 
 -- the dynamic program that the numbers of an instance spell

@@ -145,6 +145,10 @@ impl DpModel for Knapsack {
         0
     }
 
+    fn hash(&self, _k: usize, s: &[i64]) -> u64 {
+        self.left(s)
+    }
+
     fn is_state(&self, _k: usize, s: &[i64]) -> bool {
         self.may_be_left(s)
     }

@@ -78,5 +78,5 @@ alike-parents dp k [] (n ∷ new) e h = absurd (cc)
 alike-parents dp k (o ∷ old) (n ∷ new) e h =
     let same : without_arcs n ≡ without_arcs o = cc in
     let rest : map without_arcs new ≡ map without_arcs old = cc in
-    let one : IsParent dp k (without_arcs n) = subst (IsParent dp k) (sym same) (record { state = h.0.state; rank = h.0.rank; value = h.0.value }) in
-    (record { state = one.state; rank = one.rank; value = one.value }, alike-parents dp k old new rest h.1)
+    let one : IsParent dp k (without_arcs n) = subst (IsParent dp k) (sym same) (record { state = h.0.state; rank = h.0.rank; hash = h.0.hash; value = h.0.value }) in
+    (record { state = one.state; rank = one.rank; hash = one.hash; value = one.value }, alike-parents dp k old new rest h.1)

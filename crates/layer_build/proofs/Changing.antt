@@ -10,7 +10,7 @@ use Rattle.dp_laws.specs.Rules.Pruning.{is_struck, pruned_nodes, prune_redirects
 use Rattle.dp_laws.specs.Rules.Redirects.{with_redirected}
 use Rattle.layer_candidates.specs.HeldRows.{HasExchanged}
 use Rattle.layer_nodes.specs.Holding.{AreHeld, places_of}
-use Rattle.layer_nodes.specs.Nodes.{NodeView, LayerView, shown_layer, shown_below, without_arcs}
+use Rattle.layer_nodes.specs.Nodes.{told_by, told_of, NodeView, LayerView, shown_layer, shown_below, without_arcs}
 use Rattle.layer_nodes.specs.Steps.{IsRanked, KeepsNodes, KeepsRoom}
 use Rattle.layer_nodes.specs.Stored.{Room}
 use Rattle.row_region.specs.Region.{RegionView}
@@ -156,9 +156,9 @@ changed-space i h at old d x n region redirects first_reduced e g depths = recor
 -- what is seen of it
 pub changed-seen : (i : Inside) (at : ℕ) (old d x n : LayerView) (region : RegionView) (redirects : Room) (first_reduced : Option ℕ) → HasChanged i at old d x n redirects → (layers : List (List DdNode))
     → (the_view (changed i at x n region redirects first_reduced)).layers ≡ layers
-    → the_view (changed i at x n region redirects first_reduced) ≡ record (the_view i) { layers = layers; ranks = map (λ (node : NodeView). node.rank) n.nodes; first_reduced = first_reduced }
+    → the_view (changed i at x n region redirects first_reduced) ≡ record (the_view i) { layers = layers; ranks = map told_by n.nodes; first_reduced = first_reduced }
 changed-seen i at old d x n region redirects first_reduced e layers seen =
-    ap₂ (λ (r : ℕ) (l : List (List DdNode)). record (the_view i) { room = r; layers = l; ranks = map (λ (node : NodeView). node.rank) n.nodes; first_reduced = first_reduced }) e.rooms.nodes_room seen
+    ap₂ (λ (r : ℕ) (l : List (List DdNode)). record (the_view i) { room = r; layers = l; ranks = map told_by n.nodes; first_reduced = first_reduced }) e.rooms.nodes_room seen
 
 -- a rule on the last two layers
 pub changed-layers : (rule : TwoLayers → TwoLayers) (i : Inside) → the_invariant i → i.stack.first < i.stack.last → (at : ℕ) (old d x n : LayerView) (region : RegionView) (redirects : Room) (first_reduced : Option ℕ) → HasChanged i at old d x n redirects
@@ -173,12 +173,12 @@ changed-layers rule i h less at old d x n region redirects first_reduced e above
 -- the ranks of the new last layer
 pub changed-ranks : (dp : Dp) (rule : TwoLayers → TwoLayers) (i : Inside) → the_invariant i → IsUnderWay dp (the_view i) → (at : ℕ) (x n : LayerView) (region : RegionView) (redirects : Room) (first_reduced : Option ℕ) → the_invariant (changed i at x n region redirects first_reduced)
     → (the_view (changed i at x n region redirects first_reduced)).layers ≡ on_last_two rule (the_view i).layers → Each (IsRanked dp i.stack.last) n.nodes
-    → map (λ (node : NodeView). node.rank) n.nodes ≡ map (λ (node : DdNode). dp.rank (last_depth (the_view i)) node.row) (rule (last_two (the_view i).layers)).next
+    → map told_by n.nodes ≡ map (λ (node : DdNode). told_of dp (last_depth (the_view i)) node.row) (rule (last_two (the_view i).layers)).next
 changed-ranks dp rule i h u at x n region redirects first_reduced hn seen ranked =
     let new = changed i at x n region redirects first_reduced in
     let last : shown_layer (path_in (last_paths new)) n.nodes ≡ (rule (last_two (the_view i).layers)).next = sym (last-seen new hn) ∙ (ap last_layer seen ∙ last-two rule (the_view i).layers u.some) in
-    subst (λ (k : ℕ). map (λ (node : NodeView). node.rank) n.nodes ≡ map (λ (node : DdNode). dp.rank k node.row) (rule (last_two (the_view i).layers)).next) (sym (deep i h))
-    (ranks-of dp i.stack.last (path_in (last_paths new)) 0 n.nodes ranked ∙ ap (map (λ (node : DdNode). dp.rank i.stack.last node.row)) last)
+    subst (λ (k : ℕ). map told_by n.nodes ≡ map (λ (node : DdNode). told_of dp k node.row) (rule (last_two (the_view i).layers)).next) (sym (deep i h))
+    (ranks-of dp i.stack.last (path_in (last_paths new)) 0 n.nodes ranked ∙ ap (map (λ (node : DdNode). told_of dp i.stack.last node.row)) last)
 
 -- ---- the first layer alone is struck
 

@@ -10,7 +10,7 @@ use Rattle.dp_laws.specs.declared.arc.DdArc.{DdArc}
 use Rattle.dp_laws.specs.Diagrams.Nodes.{DdNode, path_below}
 use Rattle.dp_laws.specs.Diagrams.Seen.{suffix_at, suffix_from}
 use Rattle.dp_laws.specs.Rules.Compiling.{first_of_layers}
-use Rattle.layer_nodes.specs.Nodes.{NodeView, LayerView, shown, shown_from, shown_layer}
+use Rattle.layer_nodes.specs.Nodes.{Told, told_by, NodeView, LayerView, shown, shown_from, shown_layer}
 use Rattle.layer_nodes.specs.Ending.{suffix_of, lengths, MayLead, ended_layer}
 use Rattle.row_region.specs.Region.{RegionView}
 use Rattle.layer_build.specs.contracts.workspace.Workspace.{the_view, the_invariant}
@@ -121,9 +121,9 @@ paths-with : (rule : List DdArc → Option ℤ) (above : List (List ℕ)) (nodes
 paths-with rule above [] = refl
 paths-with rule above (n ∷ nodes) = ap (λ (l : List (List ℕ)). path_below (path_in above) n.parent n.decision ∷ l) (paths-with rule above nodes)
 
-ranks-with : (rule : List DdArc → Option ℤ) (nodes : List NodeView) → map (λ (n : NodeView). n.rank) (map (with_suffix rule) nodes) ≡ map (λ (n : NodeView). n.rank) nodes
+ranks-with : (rule : List DdArc → Option ℤ) (nodes : List NodeView) → map told_by (map (with_suffix rule) nodes) ≡ map told_by nodes
 ranks-with rule [] = refl
-ranks-with rule (n ∷ nodes) = ap (λ (l : List ℤ). n.rank ∷ l) (ranks-with rule nodes)
+ranks-with rule (n ∷ nodes) = ap (λ (l : List Told). told_by n ∷ l) (ranks-with rule nodes)
 
 -- the layers where the suffixes are set at depth d, of layers down to depth e
 end-down : (rule : List DdArc → Option ℤ) (old new : ℕ → List NodeView) (d e : ℕ) → ((j : ℕ) → j ≤ e → j ≢ d → new j ≡ old j) → new d ≡ map (with_suffix rule) (old d)
@@ -165,12 +165,12 @@ layers-ended i h depth new above low e =
     ∙ ap (λ (b : ℕ). ended_by rule (depth - b) (the_view i).layers) h.first)
 
 -- the ranks stay
-newest-ranks : (i : Inside) (depth : ℕ) (new : Stack) → HasSuffixesAt depth i.stack new → (i.stack.last ≡ depth) ⊎ (i.stack.last ≢ depth) → map (λ (n : NodeView). n.rank) new.newest.nodes ≡ map (λ (n : NodeView). n.rank) i.stack.newest.nodes
+newest-ranks : (i : Inside) (depth : ℕ) (new : Stack) → HasSuffixesAt depth i.stack new → (i.stack.last ≡ depth) ⊎ (i.stack.last ≢ depth) → map told_by new.newest.nodes ≡ map told_by i.stack.newest.nodes
 newest-ranks i depth new e split =
     let s = i.stack in
     let old : nodes_in s s.last ≡ s.newest.nodes = newest-at s.vars s.first s.last s.layers.items s.newest s.last refl in
     let now : nodes_in new s.last ≡ new.newest.nodes = newest-at new.vars new.first new.last new.layers.items new.newest s.last (sym e.last) in
-    let ranks : List NodeView → List ℤ = map (λ (n : NodeView). n.rank) in
+    let ranks : List NodeView → List Told = map told_by in
     sym (ap ranks now) ∙ (elim split as (λ _. ranks (nodes_in new s.last) ≡ ranks (nodes_in s s.last)) [
       | inl same ↦ subst (λ (d : ℕ). ranks (nodes_in new d) ≡ ranks (nodes_in s d)) (sym same) (ap ranks e.nodes ∙ ranks-with (longest_from s depth) (nodes_in s depth))
       | inr other ↦ ap ranks (e.others s.last (omega arith) other)
@@ -242,8 +242,8 @@ ended-seen i h depth new above low e =
     let room : new.newest.nodes_room ≡ s.newest.nodes_room = ap (λ (l : LayerView). l.nodes_room) e.newest in
     let ranks = newest-ranks i depth new e (is-or s.last depth) in
     let seen = layers-ended i h depth new above low e in
-    ap₂ (λ (v r : ℕ). record (the_view i) { vars = v; room = r; layers = shown_stack i.prefix.items new; ranks = map (λ (n : NodeView). n.rank) new.newest.nodes }) e.vars room
-    ∙ ap₂ (λ (l : List (List DdNode)) (rs : List ℤ). record (the_view i) { layers = l; ranks = rs }) seen ranks
+    ap₂ (λ (v r : ℕ). record (the_view i) { vars = v; room = r; layers = shown_stack i.prefix.items new; ranks = map told_by new.newest.nodes }) e.vars room
+    ∙ ap₂ (λ (l : List (List DdNode)) (rs : List Told). record (the_view i) { layers = l; ranks = rs }) seen ranks
 
 -- it stays under way
 pub ended-under-way : (dp : Dp) (i : Inside) → the_invariant i → (depth : ℕ) (new : Stack) → i.stack.first ≤ depth → depth ≤ i.stack.last → HasSuffixesAt depth i.stack new

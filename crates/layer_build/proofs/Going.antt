@@ -11,7 +11,7 @@ use Rattle.dp_laws.specs.Diagrams.Nodes.{DdNode, path_below}
 use Rattle.dp_laws.specs.Rules.Compiling.{TwoLayers}
 use Rattle.dp_laws.specs.Rules.Within.{IsLayerWithin, IsArcWithin, AreWithin}
 use Rattle.layer_candidates.specs.HeldRows.{HasExchanged}
-use Rattle.layer_nodes.specs.Nodes.{NodeView, LayerView, shown, shown_from, shown_layer, shown_below, without_arcs}
+use Rattle.layer_nodes.specs.Nodes.{Told, told_by, told_of, NodeView, LayerView, shown, shown_from, shown_layer, shown_below, without_arcs}
 use Rattle.layer_nodes.specs.Steps.{IsParent, IsNodeOf, MayBeLengthened, IsRanked, KeepsRoom}
 use Rattle.row_region.specs.Region.{RegionView}
 use Rattle.layer_nodes.specs.Holding.{AreHeld, places_of}
@@ -54,10 +54,10 @@ within-seen dp i h u =
     subst (IsLayerWithin dp i.stack.last i.width) (last-seen i h) (subst (λ (k : ℕ). IsLayerWithin dp k i.width (last_layer (the_view i).layers)) (deep i h) u.within)
 
 pub ranks-seen : (dp : Dp) (i : Inside) → the_invariant i → IsUnderWay dp (the_view i)
-    → map (λ (n : NodeView). n.rank) i.stack.newest.nodes ≡ map (λ (n : DdNode). dp.rank i.stack.last n.row) (shown_layer (path_in (last_paths i)) i.stack.newest.nodes)
+    → map told_by i.stack.newest.nodes ≡ map (λ (n : DdNode). told_of dp i.stack.last n.row) (shown_layer (path_in (last_paths i)) i.stack.newest.nodes)
 ranks-seen dp i h u =
-    subst (λ (l : List DdNode). map (λ (n : NodeView). n.rank) i.stack.newest.nodes ≡ map (λ (n : DdNode). dp.rank i.stack.last n.row) l) (last-seen i h)
-    (subst (λ (k : ℕ). map (λ (n : NodeView). n.rank) i.stack.newest.nodes ≡ map (λ (n : DdNode). dp.rank k n.row) (last_layer (the_view i).layers)) (deep i h) u.ranks)
+    subst (λ (l : List DdNode). map told_by i.stack.newest.nodes ≡ map (λ (n : DdNode). told_of dp i.stack.last n.row) l) (last-seen i h)
+    (subst (λ (k : ℕ). map told_by i.stack.newest.nodes ≡ map (λ (n : DdNode). told_of dp k n.row) (last_layer (the_view i).layers)) (deep i h) u.ranks)
 
 pub parents-seen : (dp : Dp) (i : Inside) → the_invariant i → IsUnderWay dp (the_view i) → i.stack.last < i.stack.vars → Each (IsParent dp i.stack.last) i.stack.newest.nodes
 parents-seen dp i h u low =
@@ -342,14 +342,14 @@ expanded-space dp rule expands i h u low narrow x n region at expansion old d sa
       has_layers = h.has_layers;
     }
 
-abbrev ranks_in : LayerView → List ℤ
-ranks_in n = map (λ (node : NodeView). node.rank) n.nodes
+abbrev ranks_in : LayerView → List Told
+ranks_in n = map told_by n.nodes
 
 pub below-length : (paths : ℕ → List ℕ) (nodes : List NodeView) → length (shown_below paths nodes) ≡ length nodes
 below-length paths nodes = map-length (λ (node : NodeView). shown (path_below paths node.parent node.decision) node) nodes
 
-ranks-below : (dp : Dp) (k : ℕ) (ps : List (List ℕ)) (n : LayerView) → Each (IsRanked dp k) n.nodes → ranks_in n ≡ map (λ (node : DdNode). dp.rank k node.row) (shown_below (path_in ps) n.nodes)
-ranks-below dp k ps n h = ranks-of dp k (path_in (paths_below ps n.nodes)) 0 n.nodes h ∙ ap (map (λ (node : DdNode). dp.rank k node.row)) (as-below ps n.nodes)
+ranks-below : (dp : Dp) (k : ℕ) (ps : List (List ℕ)) (n : LayerView) → Each (IsRanked dp k) n.nodes → ranks_in n ≡ map (λ (node : DdNode). told_of dp k node.row) (shown_below (path_in ps) n.nodes)
+ranks-below dp k ps n h = ranks-of dp k (path_in (paths_below ps n.nodes)) 0 n.nodes h ∙ ap (map (λ (node : DdNode). told_of dp k node.row)) (as-below ps n.nodes)
 
 pub expanded-seen : (rule : ℕ → List DdNode → TwoLayers) (i : Inside) → the_invariant i → i.stack.last < i.stack.vars → (x n : LayerView) (region : RegionView) (at : ℕ) (expansion : Room)
     → at ≡ place_of i.stack.vars i.stack.first i.stack.last
@@ -384,8 +384,8 @@ expanded-kept dp rule expands i h u low n narrow next ranked unmerged few =
     let choices = ap dp.choices at in
     let ranks = ranks-below dp (i.stack.last + 1) ps n ranked in
     expanded-under-way dp rule expands V (ranks_in n) u (omega arith)
-    (subst (λ (k : ℕ). ranks_in n ≡ map (λ (node : DdNode). dp.rank (k + 1) node.row) (rule (last_depth V) (last_layer V.layers)).next) (sym at)
-    (subst (λ (l : List DdNode). ranks_in n ≡ map (λ (node : DdNode). dp.rank (i.stack.last + 1) node.row) l) (sym is) ranks))
+    (subst (λ (k : ℕ). ranks_in n ≡ map (λ (node : DdNode). told_of dp (k + 1) node.row) (rule (last_depth V) (last_layer V.layers)).next) (sym at)
+    (subst (λ (l : List DdNode). ranks_in n ≡ map (λ (node : DdNode). told_of dp (i.stack.last + 1) node.row) l) (sym is) ranks))
     (subst (Each (λ (node : DdNode). 1 ≤ length node.path)) (sym is) (have-paths (path_in ps) n.nodes unmerged))
     (subst (λ (l : List DdNode). length l ≤ length (last_layer V.layers) * dp.choices (last_depth V)) (sym is)
     (subst (λ (c : ℕ). length (shown_below (path_in ps) n.nodes) ≤ c * dp.choices (last_depth V)) (sym count) (subst (λ (c : ℕ). length (shown_below (path_in ps) n.nodes) ≤ length i.stack.newest.nodes * c) (sym choices) (omega arith))))

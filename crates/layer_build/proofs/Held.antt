@@ -254,9 +254,9 @@ rows-cleared words width held s h = let a = h.enough in omega arith
 abbrev pub started_stack : Stack → ℕ → LayerView → RegionView → Stack
 started_stack s first newest region = record { vars = s.vars; first = first; last = first; layers = s.layers; newest = newest; region = region }
 
-pub rows-started : (words width held first : ℕ) (s : Stack) (newest : LayerView) (region : RegionView) (row : List ℤ) (value rank : ℤ) → length row ≡ words → newest.nodes_room ≡ s.newest.nodes_room → 1 ≤ s.newest.nodes_room
-    → HasStarted row value rank (cleared s.region) region newest.nodes → HasRows words width held s → HasRows words width first (started_stack s first newest region)
-rows-started words width held first s newest region row value rank long room some e h =
+pub rows-started : (words width held first : ℕ) (s : Stack) (newest : LayerView) (region : RegionView) (row : List ℤ) (value rank : ℤ) (hash : ℕ) → length row ≡ words → newest.nodes_room ≡ s.newest.nodes_room → 1 ≤ s.newest.nodes_room
+    → HasStarted row value rank hash (cleared s.region) region newest.nodes → HasRows words width held s → HasRows words width first (started_stack s first newest region)
+rows-started words width held first s newest region row value rank hash long room some e h =
     let fewer : (s.vars - first) * width ≤ s.vars * width = mul-le-mul_right width (let f : s.vars - first ≤ s.vars = omega arith in f) in
     let enough = h.enough in
     let total = length-replicate (length s.region.rows) None in

@@ -19,6 +19,7 @@ use Rattle.dp_laws.proofs.Rules.Within.{start-within, prune-within, keep-first-w
 use Rattle.layer_build.specs.Layers.{SpaceView, IsPreparedFor, last_depth, last_layer, expand_last, on_last_two}
 use Rattle.layer_build.specs.UnderWay.{last_two, IsUnderWay}
 use Rattle.layer_build.proofs.Expansions.{Expands}
+use Rattle.layer_nodes.specs.Nodes.{Told, told_of}
 
 -- ---- the ends of a list of layers
 
@@ -80,8 +81,8 @@ last-of-two (x ∷ y ∷ z ∷ l) = last-of-two (y ∷ z ∷ l)
 
 -- ---- the steps
 
-pub expanded-under-way : (dp : Dp) (rule : ℕ → List DdNode → TwoLayers) → Expands dp rule → (s : SpaceView) (ranks : List ℤ) → IsUnderWay dp s → last_depth s < dp.vars
-    → ranks ≡ map (λ (n : DdNode). dp.rank (last_depth s + 1) n.row) (rule (last_depth s) (last_layer s.layers)).next
+pub expanded-under-way : (dp : Dp) (rule : ℕ → List DdNode → TwoLayers) → Expands dp rule → (s : SpaceView) (ranks : List Told) → IsUnderWay dp s → last_depth s < dp.vars
+    → ranks ≡ map (λ (n : DdNode). told_of dp (last_depth s + 1) n.row) (rule (last_depth s) (last_layer s.layers)).next
     → Each (λ (n : DdNode). 1 ≤ length n.path) (rule (last_depth s) (last_layer s.layers)).next
     → length (rule (last_depth s) (last_layer s.layers)).next ≤ length (last_layer s.layers) * dp.choices (last_depth s)
     → length (rule (last_depth s) (last_layer s.layers)).next ≤ s.room
@@ -103,8 +104,8 @@ expanded-under-way dp rule expands s ranks u low ranked paths few room =
       within = subst (λ (k : ℕ). IsLayerWithin dp k s.width (last_layer (expand_last here s.layers))) (sym deep) (subst (IsLayerWithin dp (d + 1) s.width) (sym last) both.next);
       two = λ less. (let above : length s.prefix + (length (expand_last here s.layers) - 1) - 1 ≡ d = omega arith in
           subst (λ (k : ℕ). AreWithin dp k s.width (last_two (expand_last here s.layers))) (sym above) (subst (AreWithin dp d s.width) (sym (two-expand here s.layers some)) both));
-      ranks = ranked ∙ (ap (λ (k : ℕ). map (λ (n : DdNode). dp.rank k n.row) (here (last_layer s.layers)).next) (sym deep)
-          ∙ ap (map (λ (n : DdNode). dp.rank (length s.prefix + (length (expand_last here s.layers) - 1)) n.row)) (sym last));
+      ranks = ranked ∙ (ap (λ (k : ℕ). map (λ (n : DdNode). told_of dp k n.row) (here (last_layer s.layers)).next) (sym deep)
+          ∙ ap (map (λ (n : DdNode). told_of dp (length s.prefix + (length (expand_last here s.layers) - 1)) n.row)) (sym last));
       unmerged = λ wide. subst (Each (λ (n : DdNode). 1 ≤ length n.path)) (sym last) paths;
       few = subst (λ (l : List DdNode). length l ≤ s.room) (sym last) room;
       one = λ same. absurd (omega arith);
@@ -115,10 +116,10 @@ expanded-under-way dp rule expands s ranks u low ranked paths few room =
           subst (λ (l : List DdNode). length l ≤ dp.choices (length s.prefix)) (sym last) (omega arith));
     }
 
-pub two-under-way : (dp : Dp) (s : SpaceView) (ranks : List ℤ) (first_reduced : Option ℕ) (rule : TwoLayers → TwoLayers) → IsUnderWay dp s
+pub two-under-way : (dp : Dp) (s : SpaceView) (ranks : List Told) (first_reduced : Option ℕ) (rule : TwoLayers → TwoLayers) → IsUnderWay dp s
     → (length s.prefix < last_depth s → AreWithin dp (last_depth s - 1) s.width (rule (last_two s.layers)))
     → IsLayerWithin dp (last_depth s) s.width (rule (last_two s.layers)).next
-    → ranks ≡ map (λ (n : DdNode). dp.rank (last_depth s) n.row) (rule (last_two s.layers)).next
+    → ranks ≡ map (λ (n : DdNode). told_of dp (last_depth s) n.row) (rule (last_two s.layers)).next
     → (s.width < length (rule (last_two s.layers)).next → Each (λ (n : DdNode). 1 ≤ length n.path) (rule (last_two s.layers)).next)
     → length (rule (last_two s.layers)).next ≤ length (last_layer s.layers)
     → IsUnderWay dp (record s { layers = on_last_two rule s.layers; ranks = ranks; first_reduced = first_reduced })
@@ -141,8 +142,8 @@ two-under-way dp s ranks first_reduced rule u both one ranked unmerged fewer =
           let above : length s.prefix + (length (on_last_two rule s.layers) - 1) - 1 ≡ d - 1 = ap (λ (n : ℕ). n - 1) deep in
           subst (λ (k : ℕ). AreWithin dp k s.width (last_two (on_last_two rule s.layers))) (sym above)
           (subst (AreWithin dp (d - 1) s.width) (sym (two-two rule s.layers (omega arith))) (both deeper)));
-      ranks = ranked ∙ (ap (λ (k : ℕ). map (λ (n : DdNode). dp.rank k n.row) (rule (last_two s.layers)).next) (sym deep)
-          ∙ ap (map (λ (n : DdNode). dp.rank (length s.prefix + (length (on_last_two rule s.layers) - 1)) n.row)) (sym last));
+      ranks = ranked ∙ (ap (λ (k : ℕ). map (λ (n : DdNode). told_of dp k n.row) (rule (last_two s.layers)).next) (sym deep)
+          ∙ ap (map (λ (n : DdNode). told_of dp (length s.prefix + (length (on_last_two rule s.layers) - 1)) n.row)) (sym last));
       unmerged = λ wide. subst (Each (λ (n : DdNode). 1 ≤ length n.path)) (sym last) (unmerged (subst (λ (l : List DdNode). s.width < length l) last wide));
       few = subst (λ (l : List DdNode). length l ≤ s.room) (sym last) (omega arith);
       one = λ same. (let at : d ≡ length s.prefix = omega arith in let least = u.one at in subst (λ (l : List DdNode). length l ≤ 1) (sym last) (omega arith));
@@ -159,8 +160,8 @@ pruned-within dp d w k t layer h =
       wide = λ wider. (let fewer = few-pruned dp d t [] 0 layer in from (λ (n : DdNode). IsBetween (k + 1) (2 * k) n.value) (h.wide (omega arith)));
     }
 
-pub pruned-under-way : (dp : Dp) (s : SpaceView) (ranks : List ℤ) (t : Option ℤ) → IsUnderWay dp s
-    → ranks ≡ map (λ (n : DdNode). dp.rank (last_depth s) n.row) (prune dp (last_depth s) t (last_two s.layers)).next
+pub pruned-under-way : (dp : Dp) (s : SpaceView) (ranks : List Told) (t : Option ℤ) → IsUnderWay dp s
+    → ranks ≡ map (λ (n : DdNode). told_of dp (last_depth s) n.row) (prune dp (last_depth s) t (last_two s.layers)).next
     → IsUnderWay dp (record s { layers = on_last_two (prune dp (last_depth s) t) s.layers; ranks = ranks })
 pruned-under-way dp s ranks t u ranked =
     let d = last_depth s in
@@ -183,8 +184,8 @@ wide-deep dp s u wide = go (grind arith)
     go (inl less) = less
     go (inr same) = absurd (let least = u.one same in let some = u.prepared.width.positive in omega arith)
 
-pub start-under-way : (dp : Dp) → IsLawful dp → (s : SpaceView) (p : List ℕ) (ranks : List ℤ) (held : ℕ) → IsPreparedFor dp s → IsPrefix dp p
-    → ranks ≡ map (λ (n : DdNode). dp.rank (length p) n.row) (start_layer (reached dp p))
+pub start-under-way : (dp : Dp) → IsLawful dp → (s : SpaceView) (p : List ℕ) (ranks : List Told) (held : ℕ) → IsPreparedFor dp s → IsPrefix dp p
+    → ranks ≡ map (λ (n : DdNode). told_of dp (length p) n.row) (start_layer (reached dp p))
     → IsUnderWay dp (record s { prefix = p; layers = start_layer (reached dp p) ∷ []; ranks = ranks; first_reduced = None; held = held })
 start-under-way dp laws s p ranks held h prefix ranked =
     let low = IsPrefix-length dp p prefix in
@@ -199,15 +200,15 @@ start-under-way dp laws s p ranks held h prefix ranked =
       low = omega arith;
       within = subst (λ (k : ℕ). IsLayerWithin dp k s.width (start_layer (reached dp p))) (sym same) (start-within dp laws p s.width prefix low h.width.positive);
       two = λ less. absurd (omega arith);
-      ranks = ranked ∙ ap (λ (k : ℕ). map (λ (n : DdNode). dp.rank k n.row) (start_layer (reached dp p))) (sym same);
+      ranks = ranked ∙ ap (λ (k : ℕ). map (λ (n : DdNode). told_of dp k n.row) (start_layer (reached dp p))) (sym same);
       unmerged = λ wide. absurd (omega arith);
       few = some;
       one = λ e. omega arith;
       second = λ e. absurd (omega arith);
     }
 
-pub kept-under-way : (dp : Dp) (s : SpaceView) (ranks : List ℤ) (first_reduced : Option ℕ) → IsUnderWay dp s → s.width < length (last_layer s.layers)
-    → ranks ≡ map (λ (n : DdNode). dp.rank (last_depth s) n.row) (keep_first s.width (last_two s.layers)).next
+pub kept-under-way : (dp : Dp) (s : SpaceView) (ranks : List Told) (first_reduced : Option ℕ) → IsUnderWay dp s → s.width < length (last_layer s.layers)
+    → ranks ≡ map (λ (n : DdNode). told_of dp (last_depth s) n.row) (keep_first s.width (last_two s.layers)).next
     → IsUnderWay dp (record s { layers = on_last_two (keep_first s.width) s.layers; ranks = ranks; first_reduced = first_reduced })
 kept-under-way dp s ranks first_reduced u wide ranked =
     let d = last_depth s in
@@ -225,8 +226,8 @@ merged-length dp k w layer some wide =
     let short = length-take-le (w - 1) layer (omega arith) in
     omega arith
 
-pub merged-under-way : (dp : Dp) (s : SpaceView) (ranks : List ℤ) (first_reduced : Option ℕ) → IsUnderWay dp s → s.width < length (last_layer s.layers)
-    → ranks ≡ map (λ (n : DdNode). dp.rank (last_depth s) n.row) (merge_rest dp (last_depth s) s.width (last_two s.layers)).next
+pub merged-under-way : (dp : Dp) (s : SpaceView) (ranks : List Told) (first_reduced : Option ℕ) → IsUnderWay dp s → s.width < length (last_layer s.layers)
+    → ranks ≡ map (λ (n : DdNode). told_of dp (last_depth s) n.row) (merge_rest dp (last_depth s) s.width (last_two s.layers)).next
     → IsUnderWay dp (record s { layers = on_last_two (merge_rest dp (last_depth s) s.width) s.layers; ranks = ranks; first_reduced = first_reduced })
 merged-under-way dp s ranks first_reduced u wide ranked =
     let d = last_depth s in

@@ -8,6 +8,7 @@ use Rattle.layer_nodes.specs.Striking.{drop_dominated}
 use Rattle.layer_nodes.proofs.Dropped.{NoneIsStruck, dropped-pruned, none-struck, dropped-sifted}
 use Rattle.layer_build.specs.Layers.{SpaceView, last_depth, last_layer, expand_last, on_last_two}
 use Rattle.layer_build.proofs.Kept.{length-expand, last-expand}
+use Rattle.layer_nodes.specs.Nodes.{Told}
 
 -- ---- rules on the last layers
 
@@ -40,13 +41,13 @@ expand-same f g same (l ∷ m ∷ ls) = ap (λ r. l ∷ r) (expand-same f g same
 pub dropped-last : (dp : Dp) (k : ℕ) (t : Option ℤ) (ls : List (List DdNode)) → NoneIsStruck dp k t (last_layer ls) → on_last_two (drop_dominated dp k) ls ≡ on_last_two (prune dp k t) ls
 dropped-last dp k t ls free = two-same (drop_dominated dp k) (prune dp k t) ls (λ above. dropped-pruned dp k t (record { above = above; next = last_layer ls }) free)
 
-abbrev after_expand : Dp → Option ℤ → List ℤ → SpaceView → SpaceView
+abbrev after_expand : Dp → Option ℤ → List Told → SpaceView → SpaceView
 after_expand dp t ranks s = record s { layers = expand_last (expand_sifted dp (last_depth s) t) s.layers; ranks = ranks }
 
-abbrev after_drop : Dp → List ℤ → SpaceView → SpaceView
+abbrev after_drop : Dp → List Told → SpaceView → SpaceView
 after_drop dp ranks s = record s { layers = on_last_two (drop_dominated dp (last_depth s)) s.layers; ranks = ranks }
 
-deeper : (dp : Dp) (t : Option ℤ) (ranks : List ℤ) (s : SpaceView) → 1 ≤ length s.layers → last_depth (after_expand dp t ranks s) ≡ last_depth s + 1
+deeper : (dp : Dp) (t : Option ℤ) (ranks : List Told) (s : SpaceView) → 1 ≤ length s.layers → last_depth (after_expand dp t ranks s) ≡ last_depth s + 1
 deeper dp t ranks s some = let long = length-expand (expand_sifted dp (last_depth s) t) s.layers some in omega arith
 
 -- no node of the last layer is struck

@@ -10,7 +10,7 @@ use Rattle.dp_laws.specs.Diagrams.Nodes.{DdNode, path_below}
 use Rattle.dp_laws.specs.Rules.Compiling.{TwoLayers}
 use Rattle.dp_laws.specs.Rules.Within.{IsBetween}
 use Rattle.layer_candidates.specs.Ways.{IsNear, IsNearly}
-use Rattle.layer_nodes.specs.Nodes.{NodeView, shown, shown_from, shown_layer, shown_below, without_arcs}
+use Rattle.layer_nodes.specs.Nodes.{Told, told_by, told_of, NodeView, shown, shown_from, shown_layer, shown_below, without_arcs}
 use Rattle.layer_nodes.specs.Steps.{IsParent, IsNodeOf, IsRanked, AreAmong}
 use Rattle.layer_build.specs.Layers.{last_layer, expand_last, on_last_two}
 use Rattle.layer_build.specs.Stacked.{path_in, paths_below, paths_at, shown_down}
@@ -50,10 +50,14 @@ paths-same above a b e =
 
 -- ---- what a layer in memory keeps, read from what is seen of it
 
+-- a rank and a hash that are the same
+pub told-same : (a b : Told) → a.rank ≡ b.rank → a.hash ≡ b.hash → a ≡ b
+told-same a b rank hash = ap₂ (λ (r : ℤ) (h : ℕ). (let t : Told = record { rank = r; hash = h } in t)) rank hash
+
 pub ranks-of : (dp : Dp) (k : ℕ) (paths : ℕ → List ℕ) (i : ℕ) (nodes : List NodeView) → Each (IsRanked dp k) nodes
-    → map (λ (n : NodeView). n.rank) nodes ≡ map (λ (n : DdNode). dp.rank k n.row) (shown_from paths i nodes)
+    → map told_by nodes ≡ map (λ (n : DdNode). told_of dp k n.row) (shown_from paths i nodes)
 ranks-of dp k paths i [] h = refl
-ranks-of dp k paths i (n ∷ nodes) h = ap₂ (λ (r : ℤ) (l : List ℤ). r ∷ l) h.0.rank (ranks-of dp k paths (i + 1) nodes h.1)
+ranks-of dp k paths i (n ∷ nodes) h = ap₂ (λ (t : Told) (l : List Told). t ∷ l) (told-same (told_by n) (told_of dp k n.row) h.0.rank h.0.hash) (ranks-of dp k paths (i + 1) nodes h.1)
 
 head-of : {X : Type 0} (a b : X) (xs ys : List X) → a ∷ xs ≡ b ∷ ys → a ≡ b
 head-of a b xs ys e = cc
@@ -72,17 +76,17 @@ far-of k z low h = let a = h.low in let b = h.high in record { low = omega (arit
 
 pub nodes-of : (dp : Dp) (k : ℕ) (paths : ℕ → List ℕ) (i : ℕ) (nodes : List NodeView) → k ≤ 1024
     → Each (λ (n : DdNode). IsStateOf dp k n.row) (shown_from paths i nodes) → Each (λ (n : DdNode). IsBetween (k + 1) (2 * k + 1) n.value) (shown_from paths i nodes)
-    → map (λ (n : NodeView). n.rank) nodes ≡ map (λ (n : DdNode). dp.rank k n.row) (shown_from paths i nodes) → Each (IsNodeOf dp k) nodes
+    → map told_by nodes ≡ map (λ (n : DdNode). told_of dp k n.row) (shown_from paths i nodes) → Each (IsNodeOf dp k) nodes
 nodes-of dp k paths i [] low states values ranks = tt
 nodes-of dp k paths i (n ∷ nodes) low states values ranks =
-    (record { state = states.0; rank = head-of _ _ _ _ ranks; value = nearly-of k n.value low values.0 }, nodes-of dp k paths (i + 1) nodes low states.1 values.1 (tail-of _ _ _ _ ranks))
+    (record { state = states.0; rank = ap (λ (t : Told). t.rank) (head-of (told_by n) (told_of dp k n.row) _ _ ranks); hash = ap (λ (t : Told). t.hash) (head-of (told_by n) (told_of dp k n.row) _ _ ranks); value = nearly-of k n.value low values.0 }, nodes-of dp k paths (i + 1) nodes low states.1 values.1 (tail-of _ _ _ _ ranks))
 
 pub parents-of : (dp : Dp) (k : ℕ) (paths : ℕ → List ℕ) (i : ℕ) (nodes : List NodeView) → k < 1024
     → Each (λ (n : DdNode). IsStateOf dp k n.row) (shown_from paths i nodes) → Each (λ (n : DdNode). IsBetween (k + 1) (2 * k + 1) n.value) (shown_from paths i nodes)
-    → map (λ (n : NodeView). n.rank) nodes ≡ map (λ (n : DdNode). dp.rank k n.row) (shown_from paths i nodes) → Each (IsParent dp k) nodes
+    → map told_by nodes ≡ map (λ (n : DdNode). told_of dp k n.row) (shown_from paths i nodes) → Each (IsParent dp k) nodes
 parents-of dp k paths i [] low states values ranks = tt
 parents-of dp k paths i (n ∷ nodes) low states values ranks =
-    (record { state = states.0; rank = head-of _ _ _ _ ranks; value = near-of k n.value low values.0 }, parents-of dp k paths (i + 1) nodes low states.1 values.1 (tail-of _ _ _ _ ranks))
+    (record { state = states.0; rank = ap (λ (t : Told). t.rank) (head-of (told_by n) (told_of dp k n.row) _ _ ranks); hash = ap (λ (t : Told). t.hash) (head-of (told_by n) (told_of dp k n.row) _ _ ranks); value = near-of k n.value low values.0 }, parents-of dp k paths (i + 1) nodes low states.1 values.1 (tail-of _ _ _ _ ranks))
 
 -- a node with a parent has a path
 some-path : (paths : ℕ → List ℕ) (parent : Option ℕ) (d : ℕ) → IsSome parent → 1 ≤ length (path_below paths parent d)
@@ -105,7 +109,7 @@ stays P old (n ∷ new) h all = (one-of P n old h.0 all, stays P old new h.1 all
 
 pub ranked-of : (dp : Dp) (k : ℕ) (nodes : List NodeView) → Each (IsNodeOf dp k) nodes → Each (IsRanked dp k) nodes
 ranked-of dp k [] h = tt
-ranked-of dp k (n ∷ nodes) h = (record { state = h.0.state; rank = h.0.rank }, ranked-of dp k nodes h.1)
+ranked-of dp k (n ∷ nodes) h = (record { state = h.0.state; rank = h.0.rank; hash = h.0.hash }, ranked-of dp k nodes h.1)
 
 -- ---- layer below layer
 

@@ -19,18 +19,18 @@ use Rattle.layer_build.proofs.Stacks.{newest-at}
 abbrev pub started : Inside → ℕ → LayerView → RegionView → Stack
 started i first n region = started_stack i.stack first n region
 
-pub started-layers : (dp : Dp) (i : Inside) (p : List ℕ) (first : ℕ) (n : LayerView) (region : RegionView) (row : List ℤ) (value rank : ℤ) (before : RegionView) → HasStarted row value rank before region n.nodes → row ≡ state_of dp p → value ≡ value_of dp p
+pub started-layers : (dp : Dp) (i : Inside) (p : List ℕ) (first : ℕ) (n : LayerView) (region : RegionView) (row : List ℤ) (value rank : ℤ) (hash : ℕ) (before : RegionView) → HasStarted row value rank hash before region n.nodes → row ≡ state_of dp p → value ≡ value_of dp p
     → shown_stack p (started i first n region) ≡ start_layer (reached dp p) ∷ []
-started-layers dp i p first n region row value rank before e row-is value-is =
+started-layers dp i p first n region row value rank hash before e row-is value-is =
     let none : first - first ≡ 0 = omega arith in
     ap (shown_down (nodes_in (started i first n region)) (p ∷ []) first) none
     ∙ (ap (λ (l : List NodeView). shown_layer (path_in (p ∷ [])) l ∷ []) (newest-at i.stack.vars first first i.stack.layers.items n first refl ∙ e.nodes_are)
     ∙ ap₂ (λ (r : List ℤ) (v : ℤ). (record { row = r; value = v; exact = true; arcs = []; path = p; suffix = None } ∷ []) ∷ []) row-is value-is)
 
 pub started-space : (dp : Dp) (i : Inside) → the_invariant i → (p : List ℕ) (room first : ℕ) (n : LayerView) (region : RegionView) → i.stack.vars ≤ room → first ≡ length p → first ≤ i.stack.vars → KeepsRoom i.stack.newest n → 1 ≤ i.stack.newest.nodes_room
-    → (row : List ℤ) (value rank : ℤ) → length row ≡ i.words → HasStarted row value rank (cleared i.stack.region) region n.nodes → shown_stack p (started i first n region) ≡ start_layer (reached dp p) ∷ []
+    → (row : List ℤ) (value rank : ℤ) (hash : ℕ) → length row ≡ i.words → HasStarted row value rank hash (cleared i.stack.region) region n.nodes → shown_stack p (started i first n region) ≡ start_layer (reached dp p) ∷ []
     → HasSpace i.words i.width first i.choices.items p room (started i first n region) i.expansion i.redirects i.path.items i.beam
-started-space dp i h p room first n region fits begun low rooms some row value rank long e seen = record {
+started-space dp i h p room first n region fits begun low rooms some row value rank hash long e seen = record {
   stack = record {
     small = h.stack.small;
     first = omega arith;
@@ -39,7 +39,7 @@ started-space dp i h p room first n region fits begun low rooms some row value r
     newest_words = rooms.words ∙ h.stack.newest_words;
     top = h.stack.top;
   };
-  rows = rows-started i.words i.width i.held first i.stack n region row value rank long rooms.nodes_room some e h.rows;
+  rows = rows-started i.words i.width i.held first i.stack n region row value rank hash long rooms.nodes_room some e h.rows;
   first = begun;
   prefix_fits = fits;
   expands = room-as rooms.nodes_room h.expands;

@@ -8,7 +8,7 @@ use Rattle.dp_laws.specs.Diagrams.Nodes.{DdNode, path_below}
 use Rattle.dp_laws.specs.Rules.Compiling.{TwoLayers}
 use Rattle.dp_laws.specs.Rules.Within.{IsBetween, IsLayerWithin, AreWithin, IsArcWithin, LeadsWithin, ReachesWithin}
 use Rattle.dp_model.proofs.Members.{Each-then}
-use Rattle.layer_nodes.specs.Nodes.{NodeView, shown, shown_from, shown_layer, suffix_set}
+use Rattle.layer_nodes.specs.Nodes.{Told, told_by, told_of, NodeView, shown, shown_from, shown_layer, suffix_set}
 use Rattle.layer_build.specs.Layers.{SpaceView, last_depth, last_layer, suffix_at_node, suffix_in}
 use Rattle.layer_build.specs.Stacked.{path_in, paths_below, shown_down, HaveDepths}
 use Rattle.layer_build.specs.UnderWay.{last_two, IsUnderWay}
@@ -176,8 +176,8 @@ like-under-way dp s m h u =
       low = omega arith;
       within = subst (λ (k : ℕ). IsLayerWithin dp k s.width (last_layer m)) (sym deep) (within-like dp (last_depth s) s.width (last_layer s.layers) (last_layer m) last u.within);
       two = λ less. subst (λ (k : ℕ). AreWithin dp (k - 1) s.width (last_two m)) (sym deep) (both-like dp (last_depth s - 1) s.width (last_two s.layers) (last_two m) two.0 two.1 (u.two (omega arith)));
-      ranks = u.ranks ∙ (map-like (λ (n : DdNode). dp.rank (last_depth s) n.row) (λ a b e. ap (λ (n : DdNode). dp.rank (last_depth s) n.row) e) (last_layer s.layers) (last_layer m) last
-          ∙ ap (λ (k : ℕ). map (λ (n : DdNode). dp.rank k n.row) (last_layer m)) (sym deep));
+      ranks = u.ranks ∙ (map-like (λ (n : DdNode). told_of dp (last_depth s) n.row) (λ a b e. ap (λ (n : DdNode). told_of dp (last_depth s) n.row) e) (last_layer s.layers) (last_layer m) last
+          ∙ ap (λ (k : ℕ). map (λ (n : DdNode). told_of dp k n.row) (last_layer m)) (sym deep));
       unmerged = λ wide. each-like (λ (n : DdNode). 1 ≤ length n.path) (λ a b e p. subst (λ (n : DdNode). 1 ≤ length n.path) e p) (last_layer s.layers) (last_layer m) last (u.unmerged (omega arith));
       few = omega arith;
       one = λ same. (let least = u.one (omega arith) in omega arith);
@@ -192,11 +192,11 @@ shown-set paths p [] (suc i) s = refl
 shown-set paths p (n ∷ nodes) zero s = refl
 shown-set paths p (n ∷ nodes) (suc i) s = ap (λ (l : List DdNode). shown (paths p) n ∷ l) (shown-set paths (p + 1) nodes i s)
 
-pub set-ranks : (nodes : List NodeView) (i : ℕ) (s : Option ℤ) → map (λ (n : NodeView). n.rank) (suffix_set nodes i s) ≡ map (λ (n : NodeView). n.rank) nodes
+pub set-ranks : (nodes : List NodeView) (i : ℕ) (s : Option ℤ) → map told_by (suffix_set nodes i s) ≡ map told_by nodes
 set-ranks [] zero s = refl
 set-ranks [] (suc i) s = refl
 set-ranks (n ∷ nodes) zero s = refl
-set-ranks (n ∷ nodes) (suc i) s = ap (λ (l : List ℤ). n.rank ∷ l) (set-ranks nodes i s)
+set-ranks (n ∷ nodes) (suc i) s = ap (λ (l : List Told). told_by n ∷ l) (set-ranks nodes i s)
 
 paths-set : (above : List (List ℕ)) (nodes : List NodeView) (i : ℕ) (s : Option ℤ) → paths_below above (suffix_set nodes i s) ≡ paths_below above nodes
 paths-set above [] zero s = refl

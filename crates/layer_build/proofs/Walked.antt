@@ -14,7 +14,7 @@ use Rattle.layer_build.proofs.Shown.{length-shown, paths-last}
 use Rattle.layer_build.proofs.Stacks.{place-low}
 
 abbrev pub no_node : NodeView
-no_node = record { row = []; place = 0; value = pos 0; rank = pos 0; exact = false; parent = None; decision = 0; arcs = []; suffix = None }
+no_node = record { row = []; place = 0; value = pos 0; rank = pos 0; hash = 0; exact = false; parent = None; decision = 0; arcs = []; suffix = None }
 
 -- a depth down to the last one has its place
 pub place-held : (s : Stack) (depth : ℕ) → HasAllDepths s → depth ≤ s.last → place_of s.vars s.first depth < length s.layers.items

@@ -5,9 +5,10 @@ use Rattle.dp_model.specs.Decisions.{below}
 use Rattle.dp_laws.specs.Width.{FitsWidth}
 use Rattle.dp_laws.specs.Diagrams.Nodes.{DdNode, DdLayers}
 use Rattle.dp_laws.specs.Rules.Compiling.{TwoLayers}
+use Rattle.layer_nodes.specs.Nodes.{Told}
 
 -- the sizes that it was prepared for, with room for this many candidates a layer; the prefix with its decisions, the layers from
--- the prefix's depth to the last one that was made, the ranks of the states of that one, the least depth at which one was
+-- the prefix's depth to the last one that was made, the ranks and hashes of the states of that one, the least depth at which one was
 -- reduced, and the depth from which on rows are held; and the decisions of the last beam or first exact node
 pub record SpaceView : Type 0 where
   pub vars : ℕ
@@ -17,7 +18,7 @@ pub record SpaceView : Type 0 where
   pub room : ℕ
   pub prefix : List ℕ
   pub layers : List (List DdNode)
-  pub ranks : List ℤ
+  pub ranks : List Told
   pub first_reduced : Option ℕ
   pub held : ℕ
   pub path : List ℕ

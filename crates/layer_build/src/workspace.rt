@@ -50,7 +50,7 @@ pub struct Workspace {
 
 impl Model for Workspace {
     ghost use Rattle.std.specs.Prelude.{map, vec_capacity};
-    ghost use Rattle.layer_nodes.specs.Nodes.{NodeView};
+    ghost use Rattle.layer_nodes.specs.Nodes.{told_by};
     ghost use Rattle.layer_build.specs.Layers.{SpaceView};
     ghost use Rattle.layer_build.specs.Stacked.{shown_stack, HasSpace};
 
@@ -64,7 +64,7 @@ impl Model for Workspace {
       room = s.stack.newest.nodes_room;
       prefix = s.prefix.items;
       layers = shown_stack s.prefix.items s.stack;
-      ranks = map (λ (n : NodeView). n.rank) s.stack.newest.nodes;
+      ranks = map told_by s.stack.newest.nodes;
       first_reduced = s.first_reduced;
       held = s.held;
       path = s.path.items;
@@ -141,7 +141,7 @@ impl Workspace {
         stack.region.clear();
         stack
             .newest
-            .start(&mut stack.region, sub.row.as_slice(), sub.value, rank);
+            .start(&mut stack.region, sub.row.as_slice(), sub.value, rank, model.hash(first, sub.row.as_slice()));
         self.first_reduced = None;
         self.held = first;
     }

@@ -62,7 +62,7 @@ module _ (prefix : List ℕ) where
 
     -- the members that are entered stand for the prefixes of their keys' ways
     pub descended : (steps : List Step) (keys : List Key) → Each (λ key. (way_at ways key.place).parent ≤ length steps) keys
-        → members_as (path_at prefix (steps ++ map (step_of ways) keys)) region (entered (length steps) keys) ≡ all_keyed (path_at prefix steps) region ways keys
+        → members_as (path_at prefix (steps ++ map (step_of ways) keys)) region (entered ways (length steps) keys) ≡ all_keyed (path_at prefix steps) region ways keys
     descended steps [] h = refl
     descended steps (key ∷ keys) h =
         let s = step_of ways key in
@@ -73,8 +73,8 @@ module _ (prefix : List ℕ) where
         ap (λ l. path_at prefix l (length steps + 1)) (sym split) ∙ (path-stays more (map (step_of ways) keys) (length steps + 1) (omega arith) ∙ path-new steps s) in
         let later : Each (λ (key : Key). (way_at ways key.place).parent ≤ length more) keys =
         Each-then (λ (key : Key). (way_at ways key.place).parent ≤ length steps) (λ (key : Key). (way_at ways key.place).parent ≤ length more) keys (λ key low. omega arith) h.1 in
-        let rest : members_as (path_at prefix (steps ++ s ∷ map (step_of ways) keys)) region (entered (length steps + 1) keys) ≡ all_keyed (path_at prefix steps) region ways keys =
-        ap₂ (λ l n. members_as (path_at prefix l) region (entered n keys)) (sym split) (sym count) ∙ (descended more keys later ∙ keyed-stays steps (s ∷ []) keys h.1) in
+        let rest : members_as (path_at prefix (steps ++ s ∷ map (step_of ways) keys)) region (entered ways (length steps + 1) keys) ≡ all_keyed (path_at prefix steps) region ways keys =
+        ap₂ (λ l n. members_as (path_at prefix l) region (entered ways n keys)) (sym split) (sym count) ∙ (descended more keys later ∙ keyed-stays steps (s ∷ []) keys h.1) in
         ap₂ (λ (r : Reached) rs. r ∷ rs) (ap (λ (p : List ℕ). record { decisions = p; row = held_row region key.row; value = key.value }) first) rest
 
   -- the members of the layer above stand for the same prefixes
@@ -86,28 +86,28 @@ module _ (prefix : List ℕ) where
 
 -- Members, key by key.
 
-pub entered-push : (n : ℕ) (keys : List Key) (key : Key) → entered n (keys ++ key ∷ []) ≡ entered n keys ++ record { value = key.value; rank = key.rank; row = key.row; step = n + length keys + 1 } ∷ []
-entered-push n [] key = ap (λ (s : ℕ). record { value = key.value; rank = key.rank; row = key.row; step = s } ∷ []) (omega arith)
-entered-push n (k ∷ keys) key =
-    ap (λ (l : List Member). record { value = k.value; rank = k.rank; row = k.row; step = n + 1 } ∷ l)
-    (entered-push (n + 1) keys key ∙ ap (λ (s : ℕ). entered (n + 1) keys ++ record { value = key.value; rank = key.rank; row = key.row; step = s } ∷ []) (omega arith))
+pub entered-push : (ways : List Way) (n : ℕ) (keys : List Key) (key : Key) → entered ways n (keys ++ key ∷ []) ≡ entered ways n keys ++ record { value = key.value; rank = key.rank; hash = (way_at ways key.place).hash; row = key.row; step = n + length keys + 1 } ∷ []
+entered-push ways n [] key = ap (λ (s : ℕ). record { value = key.value; rank = key.rank; hash = (way_at ways key.place).hash; row = key.row; step = s } ∷ []) (omega arith)
+entered-push ways n (k ∷ keys) key =
+    ap (λ (l : List Member). record { value = k.value; rank = k.rank; hash = (way_at ways k.place).hash; row = k.row; step = n + 1 } ∷ l)
+    (entered-push ways (n + 1) keys key ∙ ap (λ (s : ℕ). entered ways (n + 1) keys ++ record { value = key.value; rank = key.rank; hash = (way_at ways key.place).hash; row = key.row; step = s } ∷ []) (omega arith))
 
-pub length-entered : (n : ℕ) (keys : List Key) → length (entered n keys) ≡ length keys
-length-entered n [] = refl
-length-entered n (k ∷ keys) = let e = length-entered (n + 1) keys in omega arith
+pub length-entered : (ways : List Way) (n : ℕ) (keys : List Key) → length (entered ways n keys) ≡ length keys
+length-entered ways n [] = refl
+length-entered ways n (k ∷ keys) = let e = length-entered ways (n + 1) keys in omega arith
 
-pub entered-within : (n m : ℕ) (keys : List Key) → n + length keys ≤ m → Each (IsReachedWithin m) (entered n keys)
-entered-within n m [] h = tt
-entered-within n m (k ∷ keys) h = (omega arith, entered-within (n + 1) m keys (omega arith))
+pub entered-within : (ways : List Way) (n m : ℕ) (keys : List Key) → n + length keys ≤ m → Each (IsReachedWithin m) (entered ways n keys)
+entered-within ways n m [] h = tt
+entered-within ways n m (k ∷ keys) h = (omega arith, entered-within ways (n + 1) m keys (omega arith))
 
-pub entered-rows : (n : ℕ) (keys : List Key) → member_rows (entered n keys) ≡ key_rows keys
-entered-rows n [] = refl
-entered-rows n (key ∷ keys) = ap (λ (l : List ℕ). key.row ∷ l) (entered-rows (n + 1) keys)
+pub entered-rows : (ways : List Way) (n : ℕ) (keys : List Key) → member_rows (entered ways n keys) ≡ key_rows keys
+entered-rows ways n [] = refl
+entered-rows ways n (key ∷ keys) = ap (λ (l : List ℕ). key.row ∷ l) (entered-rows ways (n + 1) keys)
 
 -- where the rows of the keys stay
-pub entered-same : (paths : ℕ → List ℕ) (old new : RegionView) (n : ℕ) (keys : List Key) → AreSame old new (key_rows keys) → Each (λ key. IsLive old key.row) keys
-    → members_as paths new (entered n keys) ≡ members_as paths old (entered n keys)
-entered-same paths old new n [] same live = refl
-entered-same paths old new n (key ∷ keys) same live =
+pub entered-same : (ways : List Way) (paths : ℕ → List ℕ) (old new : RegionView) (n : ℕ) (keys : List Key) → AreSame old new (key_rows keys) → Each (λ key. IsLive old key.row) keys
+    → members_as paths new (entered ways n keys) ≡ members_as paths old (entered ways n keys)
+entered-same ways paths old new n [] same live = refl
+entered-same ways paths old new n (key ∷ keys) same live =
     ap₂ (λ (r : Reached) rs. r ∷ rs) (ap (λ (row : List ℤ). record { decisions = paths (n + 1); row = row; value = key.value }) (held-same old new key.row live.0 same.0))
-    (entered-same paths old new (n + 1) keys same.1 live.1)
+    (entered-same ways paths old new (n + 1) keys same.1 live.1)

@@ -19,11 +19,12 @@ use Rattle.layer_candidates.specs.declared.way.Way.{Way}
 use Rattle.layer_candidates.specs.declared.member.Member.{Member}
 use Rattle.layer_candidates.specs.HeldRows.{held_row, AreLive, AreSame, HasExchanged, HasWritten}
 use Rattle.layer_candidates.specs.Rows.{HasZeros}
-use Rattle.layer_candidates.specs.Ways.{rows_of, way_row, reached_by, all_reached, IsNear, IsNearly, IsWay, AllHaveZeros, AreWays, AreJoined}
+use Rattle.layer_candidates.specs.Table.{HaveFold}
+use Rattle.layer_candidates.specs.Ways.{rows_of, way_row, reached_by, all_reached, IsNear, IsNearly, IsWay, AllHaveZeros, AreHashed, AreWays, AreJoined}
 use Rattle.layer_candidates.specs.Members.{member_rows, member_as, members_as, IsMemberOf}
 use Rattle.layer_candidates.specs.Extending.{HasWayRoom, parent_as, all_allowed, HasExtended, AreExtended}
 use Rattle.layer_candidates.proofs.HeldRows.{each-here, each-left, each-right, held-same, same-self, same-then, ways-same, exchange-self, exchange-then, exchange-moved, length-rows, put-same, exchange-put, given-same, exchange-give, written-here, written-beside, exchange-written}
-use Rattle.layer_candidates.proofs.Joined.{last_or, all_joined_both, row-kept, joined-same, reached-same}
+use Rattle.layer_candidates.proofs.Joined.{last_or, all_joined_both, zeros-same, row-kept, joined-same, reached-same}
 use Rattle.row_region.specs.Region.{RegionView, IsLive, HasPut}
 
 -- A state is written at the spot.
@@ -51,6 +52,11 @@ written dp laws k s d old new spot ways test allowed live h =
 -- the rows of the ways begin with zeros
 pub rows-zeros : (dp : Dp) (k live : ℕ) (row : ℕ → List ℤ) (ways : List Way) → AllHaveZeros dp k live → AreWays dp k row ways → (i : ℕ) → i < length ways → HasZeros live (row i)
 rows-zeros dp k live row ways zeros good i less = zeros (row i) (good i less).state
+
+-- of rows that begin with zeros those have the fold of a state that have its live cells
+pub have-fold : (dp : Dp) (k live : ℕ) (row : ℕ → List ℤ) (ways : List Way) (folds : List ℕ) (state : List ℤ) (hash : ℕ) → AreHashed dp k row (length ways) folds → ((i : ℕ) → i < length ways → HasZeros live (row i)) → HasZeros live state
+    → hash ≡ dp.hash k state → HaveFold row live (length ways) (drop live state) hash folds
+have-fold dp k live row ways folds state hash hashed zeros new is = λ i less e. hashed i less ∙ (ap (dp.hash k) (zeros-same live (row i) state (zeros i less) new e) ∙ sym is)
 
 -- Where the row at the spot is kept, another one is the spot.
 
@@ -124,10 +130,11 @@ pub near-sum : (v g : ℤ) → IsNear v → IsSmall g → IsNearly (v +ℤ g)
 near-sum v g near small = record { low = omega (arith, ints); high = omega (arith, ints) }
 
 pub is-way : (dp : Dp) → IsLawful dp → (k : ℕ) (s : List ℤ) (d : ℕ) (way : Way) (value : ℤ) → IsStateOf dp k s → IsAllowed dp k s d → IsNear value
-    → way.value ≡ (value +ℤ dp.gain k s d) → way.rank ≡ dp.rank (k + 1) (dp.step k s d) → IsWay dp (k + 1) (dp.step k s d) way
-is-way dp laws k s d way value here allowed near is ranked = record {
+    → way.value ≡ (value +ℤ dp.gain k s d) → way.rank ≡ dp.rank (k + 1) (dp.step k s d) → way.hash ≡ dp.hash (k + 1) (dp.step k s d) → IsWay dp (k + 1) (dp.step k s d) way
+is-way dp laws k s d way value here allowed near is ranked hashed = record {
   state = record { layer = (let low = allowed.layer in omega arith); test = laws.states.step k s d here allowed };
   rank = ranked;
+  hash = hashed;
   value = subst IsNearly (sym is) (near-sum value (dp.gain k s d) near (laws.sizes.gain k s d here allowed));
 }
 
@@ -275,7 +282,7 @@ module _ (dp : Dp) (k step : ℕ) (s : List ℤ) (value : ℤ) (live : ℕ) (old
 -- Members.
 
 abbrev pub no_member : Member
-no_member = record { value = pos 0; rank = pos 0; row = 0; step = 0 }
+no_member = record { value = pos 0; rank = pos 0; hash = 0; row = 0; step = 0 }
 
 -- a member's row was copied and given back, and those of the later ones stay
 pub record HasMoved (old region new : RegionView) (all : List ℕ) (m : Member) (rest : List Member) (spot : ℕ) (ways : List Way) (s : List ℤ) : Type 0 where
@@ -317,10 +324,10 @@ members-start dp k above live members row folds next size power = record {
       folds_size = omega arith;
       next_size = omega arith;
       slots = subst IsPowerOfTwo (sym (length-replicate {A = ℕ} size 0)) power;
-      folds_are = λ i less. absurd (omega arith);
       heads_are = λ slot less. get_or-replicate size slot 0 0 (let e : length (replicate {A = ℕ} size 0) ≡ size = length-replicate size 0 in omega arith);
       next_are = λ i less. absurd (omega arith);
     };
+    hashed = λ i less. absurd (omega arith);
     apart = λ a b less within. absurd (omega arith);
     good = λ i less. absurd (omega arith);
   };

@@ -3,7 +3,6 @@ use Rattle.std.proofs.Common.{◌≡◌, ◌≢◌, ℕ, zero, suc, ◌+◌, ◌
 use Rattle.std.proofs.Math.Seq.{get_or-append_seam}
 use Rattle.std.proofs.lemmas.List.{append-nil, set_at, set-append_left, length_push, get_or-set_same, get_or-set_other, length-set, get_or_append_left, get_or-map, length-map, map-append, map-set, set-get_or, take-append-drop}
 use Rattle.dp_model.specs.Dp.{Dp}
-use Rattle.dp_model.specs.Folds.{fold_of}
 use Rattle.dp_model.specs.Reached.{Reached}
 use Rattle.dp_model.specs.Rows.{row_same}
 use Rattle.dp_model.proofs.RowLemmas.{row_same-self, row_same-is}
@@ -12,7 +11,7 @@ use Rattle.layer_candidates.specs.declared.way.Way.{Way}
 use Rattle.layer_candidates.specs.HeldRows.{held_row}
 use Rattle.layer_candidates.specs.Rows.{live_at, HasZeros}
 use Rattle.layer_candidates.specs.Table.{IsTable}
-use Rattle.layer_candidates.specs.Ways.{table, way_at, rows_of, way_row, reached_by, reached_at, all_reached, bettered, IsWay, AreDistinctRows, AreWays, AreJoined}
+use Rattle.layer_candidates.specs.Ways.{table, way_at, rows_of, way_row, reached_by, reached_at, all_reached, bettered, IsWay, AreDistinctRows, AreHashed, AreWays, AreJoined}
 use Rattle.row_region.specs.Region.{RegionView}
 
 -- rows that begin with this many zeros are the same where their other cells are
@@ -116,10 +115,12 @@ module _ (row row2 : ℕ → List ℤ) (ways : List Way) (same : (i : ℕ) → i
     folds_size = t.folds_size;
     next_size = t.next_size;
     slots = t.slots;
-    folds_are = λ k less. t.folds_are k less ∙ ap (λ r. fold_of 0 (drop live r)) (sym (same k less));
     heads_are = t.heads_are;
     next_are = t.next_are;
   }
+
+  pub hashed-same : (dp : Dp) (k : ℕ) (folds : List ℕ) → AreHashed dp k row (length ways) folds → AreHashed dp k row2 (length ways) folds
+  hashed-same dp k folds hashed i less = hashed i less ∙ ap (dp.hash k) (sym (same i less))
 
   pub apart-same : AreDistinctRows row (length ways) → AreDistinctRows row2 (length ways)
   apart-same apart a b less within e = apart a b less within (sym (same a (omega arith)) ∙ (e ∙ same b within))
@@ -128,7 +129,7 @@ module _ (row row2 : ℕ → List ℤ) (ways : List Way) (same : (i : ℕ) → i
   good-same dp k good i less = subst (λ r. IsWay dp k r (way_at ways i)) (sym (same i less)) (good i less)
 
   pub joined-same : (dp : Dp) (k live : ℕ) (folds heads next : List ℕ) → AreJoined dp k row live ways folds heads next → AreJoined dp k row2 live ways folds heads next
-  joined-same dp k live folds heads next j = record { table = table-same live folds heads next j.table; apart = apart-same j.apart; good = good-same dp k j.good }
+  joined-same dp k live folds heads next j = record { table = table-same live folds heads next j.table; hashed = hashed-same dp k folds j.hashed; apart = apart-same j.apart; good = good-same dp k j.good }
 
 -- A way that is new.
 
@@ -221,7 +222,7 @@ module _ (row : ℕ → List ℤ) (ways : List Way) (way : Way) (new : List ℤ)
 
       go : (i : ℕ) → i < length ways → (i ≡ place) ⊎ (i ≢ place) → IsWay dp k (row i) (way_at (set ways place (with_place place)) i)
       go i l (inl e) = subst (λ (j : ℕ). IsWay dp k (row j) (way_at (set ways place (with_place place)) j)) (sym e)
-          (subst (IsWay dp k (row place)) (sym (get_or-set_same ways place (with_place place) _ less)) (subst (λ r. IsWay dp k r (with_place place)) (sym same) (record { state = one.state; rank = one.rank; value = one.value })))
+          (subst (IsWay dp k (row place)) (sym (get_or-set_same ways place (with_place place) _ less)) (subst (λ r. IsWay dp k r (with_place place)) (sym same) (record { state = one.state; rank = one.rank; hash = one.hash; value = one.value })))
       go i l (inr n) = subst (IsWay dp k (row i)) (sym (get_or-set_other ways place i (with_place place) _ n)) (good i l)
 
 -- The rows in a region.
@@ -257,16 +258,25 @@ module _ (region : RegionView) (ways : List Way) (way : Way) where
   pushed-none : (live : ℕ) → ((k : ℕ) → k < length ways → live_at old_row live k ≢ drop live (held_row region way.row)) → (k : ℕ) → k < length ways → new_row k ≢ new_row (length ways)
   pushed-none live none k less e = none k less (ap (drop live) (sym (pushed-before k less) ∙ (e ∙ pushed-here)))
 
+  pushed-hashed : (dp : Dp) (k hash : ℕ) (folds folds2 : List ℕ) → length ways < length folds → folds2 ≡ set folds (length ways) hash → hash ≡ dp.hash k (held_row region way.row)
+      → AreHashed dp k new_row (length ways) folds → AreHashed dp k new_row (length ways + 1) folds2
+  pushed-hashed dp k hash folds folds2 room is hash_is hashed i less = go (last_or i (length ways) (omega arith))
+    where
+      go : (i ≡ length ways) ⊎ (i < length ways) → get_or folds2 i 0 ≡ dp.hash k (new_row i)
+      go (inl e) = ap₂ (λ (l : List ℕ) (j : ℕ). get_or l j 0) is e ∙ (get_or-set_same folds (length ways) hash 0 room ∙ (hash_is ∙ (ap (dp.hash k) (sym pushed-here) ∙ ap (λ (j : ℕ). dp.hash k (new_row j)) (sym e))))
+      go (inr l) = ap (λ (fs : List ℕ). get_or fs i 0) is ∙ (get_or-set_other folds (length ways) i hash 0 (λ e. omega arith) ∙ hashed i l)
+
   -- a way whose state is new goes after the others
-  pub pushed-joined : (dp : Dp) (k live : ℕ) (folds heads next folds2 heads2 next2 : List ℕ) → ((k : ℕ) → k < length ways → live_at old_row live k ≢ drop live (held_row region way.row))
+  pub pushed-joined : (dp : Dp) (k live : ℕ) (folds heads next folds2 heads2 next2 : List ℕ) → length ways < length folds → folds2 ≡ set folds (length ways) way.hash → ((k : ℕ) → k < length ways → live_at old_row live k ≢ drop live (held_row region way.row))
       → AreJoined dp k old_row live ways folds heads next → IsWay dp k (held_row region way.row) way
       → (IsTable new_row live (length ways) folds heads next → IsTable new_row live (length ways + 1) folds2 heads2 next2)
       → AreJoined dp k new_row live (ways ++ way ∷ []) folds2 heads2 next2
-  pushed-joined dp k live folds heads next folds2 heads2 next2 none j one put =
+  pushed-joined dp k live folds heads next folds2 heads2 next2 room is none j one put =
       let longer : length (ways ++ way ∷ []) ≡ length ways + 1 = length_push ways way in
       let was = joined-same old_row new_row ways pushed-before dp k live folds heads next j in
       record {
         table = subst (λ (n : ℕ). IsTable new_row live n folds2 heads2 next2) (sym longer) (put was.table);
+        hashed = subst (λ (n : ℕ). AreHashed dp k new_row n folds2) (sym longer) (pushed-hashed dp k way.hash folds folds2 room is one.hash was.hashed);
         apart = subst (AreDistinctRows new_row) (sym (longer ∙ add-one (length ways))) (pushed_apart new_row ways way was.apart (pushed-none live none));
         good = pushed_ways new_row ways way dp k was.good (subst (λ r. IsWay dp k r way) (sym pushed-here) one);
       }
@@ -294,6 +304,7 @@ module _ (region : RegionView) (ways : List Way) (way : Way) where
         let count = length-bettered old_row ways way (held_row region way.row) place in
         joined-same old_row better_row (bettered ways place way) stays dp k live folds heads next (record {
           table = subst (λ (n : ℕ). IsTable old_row live n folds heads next) (sym count) j.table;
+          hashed = subst (λ (n : ℕ). AreHashed dp k old_row n folds) (sym count) j.hashed;
           apart = subst (AreDistinctRows old_row) (sym count) j.apart;
           good = bettered_ways old_row ways way (held_row region way.row) dp k place less same j.good one;
         })

@@ -23,7 +23,7 @@ use Rattle.layer_candidates.specs.KeyOrder.{key_rows, all_of, IsKeyOf}
 use Rattle.layer_candidates.specs.HeldRows.{AreLive, HasExchanged, AreSame, HasLeft, held_row}
 use Rattle.layer_candidates.specs.Layering.{AreListed}
 use Rattle.layer_candidates.specs.Members.{member_rows, member_as, members_as, IsHeldAt}
-use Rattle.layer_candidates.specs.Pruning.{keyed, all_keyed, unstruck_keys, IsKeyIn, HasPruned}
+use Rattle.layer_candidates.specs.Pruning.{keyed, all_keyed, unstruck_keys, IsKeyIn, IsOfWay, HasPruned}
 use Rattle.layer_candidates.specs.Rows.{HasZeros}
 use Rattle.layer_candidates.specs.Steps.{path_at, step_of, step_at, entered, AreBackward, IsReachedWithin}
 use Rattle.layer_candidates.specs.Ways.{table, way_at, rows_of, way_row, reached_at, all_reached, IsNearly, AreWays}
@@ -101,9 +101,21 @@ keyed-of paths old new ways [] h same = refl
 keyed-of paths old new ways (key ∷ keys) h same =
     ap₂ (λ (r : Reached) rs. r ∷ rs) (ap₂ (λ v r. record (keyed paths new ways key) { value = v; row = r }) (ap (λ (x : Key). x.value) h.0.is) (same.0 ∙ sym (key-row old ways key h.0))) (keyed-of paths old new ways keys h.1 same.1)
 
-pub held-each : (dp : Dp) (k n : ℕ) (region : RegionView) (keys : List Key) → Each (IsKeyIn dp k region) keys → Each (IsHeldAt dp k region) (entered n keys)
-held-each dp k n region [] h = tt
-held-each dp k n region (key ∷ keys) h = (record { live = h.0.live; state = h.0.state; rank = h.0.rank }, held-each dp k (n + 1) region keys h.1)
+pub of-ways : (dp : Dp) (k : ℕ) (old new : RegionView) (ways : List Way) → AreWays dp k (way_row old ways) ways → (keys : List Key) → Each (IsKeyOf ways) keys → Each (λ key. held_row new key.row ≡ held_row old key.row) keys → Each (IsOfWay dp k new ways) keys
+of-ways dp k old new ways good [] of same = tt
+of-ways dp k old new ways good (key ∷ keys) of same = (
+  record { within = of.0.within; hash = (good key.place of.0.within).hash ∙ ap (dp.hash k) (key-row old ways key of.0 ∙ sym same.0) },
+  of-ways dp k old new ways good keys of.1 same.1,
+)
+
+pub held-each : (dp : Dp) (k n : ℕ) (region : RegionView) (ways : List Way) (keys : List Key) → Each (IsKeyIn dp k region) keys → Each (IsOfWay dp k region ways) keys → Each (IsHeldAt dp k region) (entered ways n keys)
+held-each dp k n region ways [] h of = tt
+held-each dp k n region ways (key ∷ keys) h of = (record { live = h.0.live; state = h.0.state; rank = h.0.rank; hash = of.0.hash }, held-each dp k (n + 1) region ways keys h.1 of.1)
+
+-- where the rows of the keys stay
+of-ways-same : (dp : Dp) (k : ℕ) (old new : RegionView) (ways : List Way) (keys : List Key) → Each (λ key. held_row new key.row ≡ held_row old key.row) keys → Each (IsOfWay dp k old ways) keys → Each (IsOfWay dp k new ways) keys
+of-ways-same dp k old new ways [] same of = tt
+of-ways-same dp k old new ways (key ∷ keys) same of = (record { within = of.0.within; hash = of.0.hash ∙ ap (dp.hash k) (sym same.0) }, of-ways-same dp k old new ways keys same.1 of.1)
 
 each-row : (P : ℕ → Type 0) (keys : List Key) → Each P (key_rows keys) → Each (λ key. P key.row) keys
 each-row P [] h = tt
@@ -155,29 +167,35 @@ module _ (dp : Dp) (k : ℕ) (t : Option ℤ) (above r1 r2 : RegionView) (member
       ∙ ap (λ rs. unstruck dp (k + 1) t (in_order dp (k + 1) rs)) (h.list paths)))
 
   module _ (most : ℕ) (r3 : RegionView) (kept : List Key) (more : Bool) (done : HasPruned dp (k + 1) most r2 keys kept more) (left : HasLeft r2 (key_rows keys) r3 (key_rows kept)) (steps : List Step) where
+    kept-of : Each (IsOfWay dp (k + 1) r2 ways) kept
+    kept-of = done.own ways (of-ways dp (k + 1) r1 r2 ways h.distinct.good keys layer-keys keys-still)
+
     pub kept-places : Each (λ key. key.place < length ways) kept
-    kept-places = done.places (length ways) (Each-then (IsKeyOf ways) (λ key. key.place < length ways) keys (λ key h. h.within) layer-keys)
+    kept-places = Each-then (IsOfWay dp (k + 1) r2 ways) (λ key. key.place < length ways) kept (λ key h. h.within) kept-of
 
     parents-low : Each (IsReachedWithin (length steps)) members → Each (λ key. (way_at ways key.place).parent ≤ length steps) kept
     parents-low reached = Each-then (λ (key : Key). key.place < length ways) (λ (key : Key). (way_at ways key.place).parent ≤ length steps) kept
         (λ key low. parents-within dp k (length steps) above members (way_row r1 ways) ways reached h.list key.place low) kept-places
 
-    pub next-list : Each (IsReachedWithin (length steps)) members → (prefix : List ℕ) → members_as (path_at prefix (steps ++ map (step_of ways) kept)) r3 (entered (length steps) kept)
+    pub next-list : Each (IsReachedWithin (length steps)) members → (prefix : List ℕ) → members_as (path_at prefix (steps ++ map (step_of ways) kept)) r3 (entered ways (length steps) kept)
         ≡ take most (whole_layer dp k t (members_as (path_at prefix steps) above members))
     next-list reached prefix =
         let live = Each-then (IsKeyIn dp (k + 1) r2) (λ (key : Key). IsLive r2 key.row) kept (λ key h. h.live) done.within in
-        entered-same (path_at prefix (steps ++ map (step_of ways) kept)) r2 r3 (length steps) kept left.same live
+        entered-same ways (path_at prefix (steps ++ map (step_of ways) kept)) r2 r3 (length steps) kept left.same live
         ∙ (descended prefix r2 ways steps kept (parents-low reached) ∙ (done.list (path_at prefix steps) ways ∙ ap (take most) (whole (path_at prefix steps))))
 
     pub next-more : (prefix : List ℕ) → more ≡ nat_lt most (length (whole_layer dp k t (members_as (path_at prefix steps) above members)))
     next-more prefix = done.more_stay (path_at prefix steps) ways ∙ ap (λ l. nat_lt most (length l)) (whole (path_at prefix steps))
 
-    pub next-held : Each (IsHeldAt dp (k + 1) r3) (entered (length steps) kept)
-    next-held = held-each dp (k + 1) (length steps) r3 kept (keys-same dp (k + 1) r2 r3 kept left.same done.within)
+    pub next-held : Each (IsHeldAt dp (k + 1) r3) (entered ways (length steps) kept)
+    next-held =
+        let live = Each-then (IsKeyIn dp (k + 1) r2) (λ (key : Key). IsLive r2 key.row) kept (λ key h. h.live) done.within in
+        held-each dp (k + 1) (length steps) r3 ways kept (keys-same dp (k + 1) r2 r3 kept left.same done.within)
+        (of-ways-same dp (k + 1) r2 r3 ways kept (rows-same r2 r3 kept left.same live) kept-of)
 
-    pub next-exchanged : HasExchanged above (member_rows members) r3 (member_rows (entered (length steps) kept))
+    pub next-exchanged : HasExchanged above (member_rows members) r3 (member_rows (entered ways (length steps) kept))
     next-exchanged =
-        subst (HasExchanged above (member_rows members) r3) (sym (entered-rows (length steps) kept))
+        subst (HasExchanged above (member_rows members) r3) (sym (entered-rows ways (length steps) kept))
         (exchange-then above r2 r3 (member_rows members) (key_rows keys) (key_rows kept) (exchange-then above r1 r2 (member_rows members) (rows_of ways) (key_rows keys) h.exchanged ordered.exchanged) left.exchanged)
 
     pub next-backward : Each (IsReachedWithin (length steps)) members → AreBackward steps → AreBackward (steps ++ map (step_of ways) kept)

@@ -15,7 +15,7 @@ use Rattle.layer_candidates.specs.declared.key.Key.{Key}
 use Rattle.layer_candidates.specs.declared.way.Way.{Way}
 use Rattle.layer_candidates.specs.HeldRows.{AreSame, HasLeft, held_row}
 use Rattle.layer_candidates.specs.KeyOrder.{key_at, key_rows}
-use Rattle.layer_candidates.specs.Pruning.{keyed, all_keyed, IsKeyIn, led_by, with_leader, ArePruned, HasPruned}
+use Rattle.layer_candidates.specs.Pruning.{keyed, all_keyed, IsKeyIn, IsOfWay, led_by, with_leader, ArePruned, HasPruned}
 use Rattle.layer_candidates.specs.Ways.{rows_of, way_row, AreWays}
 use Rattle.layer_candidates.proofs.HeldRows.{each-here, each-left, each-right, held-same, way-each}
 use Rattle.row_region.specs.Region.{RegionView, IsLive}
@@ -174,7 +174,7 @@ module _ (dp : Dp) (k : ℕ) (most : ℕ) (region : RegionView) (keys leaders ke
             ap (λ l. all_keyed paths region ways kept ++ l) (sym (ap (λ l. undominated dp k ls l) (next paths ways) ∙ gone)) ∙ h.list paths ways);
         leading = h.leading;
         within = h.within;
-        places = h.places;
+        own = h.own;
         few = omega arith;
         most_stay = h.most_stay;
       }
@@ -201,7 +201,7 @@ module _ (dp : Dp) (k : ℕ) (most : ℕ) (region : RegionView) (keys leaders ke
             ∙ (ap (λ l. all_keyed paths region ways kept ++ l) (sym (left paths ways out)) ∙ h.list paths ways)));
         leading = ap (λ l. with_leader l key) h.leading ∙ leaders-first kept key;
         within = Each-append (IsKeyIn dp k region) kept (key ∷ []) h.within (one, tt);
-        places = λ n all. Each-append (λ (x : Key). x.place < n) kept (key ∷ []) (h.places n all) (each-here (λ (x : Key). x.place < n) keys i d all less, tt);
+        own = λ ways all. Each-append (IsOfWay dp k region ways) kept (key ∷ []) (h.own ways all) (each-here (IsOfWay dp k region ways) keys i d all less, tt);
         few = omega arith;
         most_stay = omega arith;
       }
@@ -221,7 +221,7 @@ module _ (dp : Dp) (k : ℕ) (most : ℕ) (region : RegionView) (keys leaders ke
         let size : length f ≡ most = length-map kept (keyed paths region ways) ∙ full in
         sym (ap (λ l. nat_lt most (length l)) (whole paths ways) ∙ more f _ _ size));
     within = h.within;
-    places = h.places;
+    own = h.own;
     few = (let low = h.few in omega arith);
     most_stay = h.most_stay;
   }
@@ -236,7 +236,7 @@ module _ (dp : Dp) (k : ℕ) (most : ℕ) (region : RegionView) (keys leaders ke
       more f r rs size = let sum = length-append f (r ∷ rs) in grind (arith, nat_tests)
 
 pub pruned-none : (dp : Dp) (k : ℕ) (most : ℕ) (region : RegionView) (keys : List Key) → ArePruned dp k most region keys [] [] 0
-pruned-none dp k most region keys = record { list = λ paths ways. refl; leading = refl; within = tt; places = λ n all. tt; few = omega arith; most_stay = omega arith }
+pruned-none dp k most region keys = record { list = λ paths ways. refl; leading = refl; within = tt; own = λ ways all. tt; few = omega arith; most_stay = omega arith }
 
 pub strictly : (p n : ℕ) → p ≤ n → (p ≡ n → ⊥) → p < n
 strictly p n h k = grind arith

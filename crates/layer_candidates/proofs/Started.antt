@@ -32,8 +32,8 @@ prefix-state dp laws p h = state_of-state dp laws.states p h
 pub prefix-cells : (dp : Dp) → IsLawful dp → (p : List ℕ) (row : List ℤ) (cells : ℕ) → IsPrefix dp p → row ≡ state_of dp p → cells ≡ dp.words → length row ≡ cells
 prefix-cells dp laws p row cells h row_is cells_are = ap length row_is ∙ (laws.sizes.cells (length p) (state_of dp p) (prefix-state dp laws p h) ∙ sym cells_are)
 
-abbrev start_member : ℤ → ℤ → ℕ → Member
-start_member value rank place = record { value = value; rank = rank; row = place; step = 0 }
+abbrev start_member : ℤ → ℤ → ℕ → ℕ → Member
+start_member value rank hash place = record { value = value; rank = rank; hash = hash; row = place; step = 0 }
 
 -- the memory is what it was
 pub layers-same : (dp : Dp) (w : ℕ) (old new : Beam) → HasLayers dp w old → ((words count : ℕ) → HasMemory words count old.candidates → HasMemory words count new.candidates)
@@ -54,23 +54,24 @@ members-of dp k region [] held near = tt
 members-of dp k region (m ∷ members) held near = (record { held = held.0; value = near.0 }, members-of dp k region members held.1 near.1)
 
 -- a beam holds the prefix alone, whose row is at the place
-pub record IsAlone (dp : Dp) (p : List ℕ) (b : Beam) (region : RegionView) (place : ℕ) (row : List ℤ) (value rank : ℤ) : Type 0 where
+pub record IsAlone (dp : Dp) (p : List ℕ) (b : Beam) (region : RegionView) (place : ℕ) (row : List ℤ) (value rank : ℤ) (hash : ℕ) : Type 0 where
   pub region_words : region.words ≡ dp.words
   pub found : slice_get region.rows place ≡ Some (Some row)
   pub row_is : row ≡ state_of dp p
   pub value_is : value ≡ value_of dp p
   pub rank_is : rank ≡ dp.rank (length p) row
-  pub members : b.members.items ≡ start_member value rank place ∷ []
+  pub hash_is : hash ≡ dp.hash (length p) row
+  pub members : b.members.items ≡ start_member value rank hash place ∷ []
   pub steps : b.steps.items ≡ []
 
-pub built-start : (dp : Dp) → IsLawful dp → (p : List ℕ) (w : ℕ) (t : Option ℤ) (b : Beam) (region : RegionView) (place : ℕ) (row : List ℤ) (value rank : ℤ) → IsPrefix dp p → length p < dp.vars → HasLayers dp w b → HasBeamRows dp w (region.spare + 1)
-    → IsAlone dp p b region place row value rank → IsBuilt dp p w t (length p) b region false
-built-start dp laws p w t b region place row value rank is_prefix shorter room enough a =
+pub built-start : (dp : Dp) → IsLawful dp → (p : List ℕ) (w : ℕ) (t : Option ℤ) (b : Beam) (region : RegionView) (place : ℕ) (row : List ℤ) (value rank : ℤ) (hash : ℕ) → IsPrefix dp p → length p < dp.vars → HasLayers dp w b → HasBeamRows dp w (region.spare + 1)
+    → IsAlone dp p b region place row value rank hash → IsBuilt dp p w t (length p) b region false
+built-start dp laws p w t b region place row value rank hash is_prefix shorter room enough a =
     let zero_is : length p - length p ≡ 0 = omega arith in
     let inside : nat_lt (length p) dp.vars ≡ true = grind (arith, nat_tests) in
     let here : held_row region place ≡ row = held-is region place row a.found in
-    let first : members_as (path_at p b.steps.items) region (start_member value rank place ∷ []) ≡ reached dp p ∷ [] =
-    ap (λ l. members_as (path_at p l) region (start_member value rank place ∷ [])) a.steps
+    let first : members_as (path_at p b.steps.items) region (start_member value rank hash place ∷ []) ≡ reached dp p ∷ [] =
+    ap (λ l. members_as (path_at p l) region (start_member value rank hash place ∷ [])) a.steps
     ∙ ap₂ (λ (r : List ℤ) (v : ℤ). record { decisions = p; row = r; value = v } ∷ []) (here ∙ a.row_is) a.value_is in
     let count : length b.members.items ≡ 1 = ap length a.members in
     let none : length b.steps.items ≡ 0 = ap length a.steps in
@@ -87,6 +88,7 @@ built-start dp laws p w t b region place row value rank is_prefix shorter room e
           live = (row, a.found);
           state = subst (IsStateOf dp (length p)) (sym (here ∙ a.row_is)) (prefix-state dp laws p is_prefix);
           rank = a.rank_is ∙ ap (dp.rank (length p)) (sym here);
+          hash = a.hash_is ∙ ap (dp.hash (length p)) (sym here);
         },
         tt,
       );

@@ -4,8 +4,7 @@ use Rattle.std.proofs.Common.{◌≡◌, ◌≢◌, ℕ, zero, suc, ◌-◌, ◌
 use Rattle.std.proofs.lemmas.Bool.Decides.{nat_tests}
 use Rattle.std.proofs.lemmas.List.{get_or-set_same, get_or-set_other, length-set}
 use Rattle.layer_candidates.specs.Rows.{live_at}
-use Rattle.dp_model.specs.Folds.{fold_of}
-use Rattle.layer_candidates.specs.Table.{slot_of, top, has_slot, IsTable, IsSearched}
+use Rattle.layer_candidates.specs.Table.{slot_of, top, has_slot, HaveFold, IsTable, IsSearched}
 
 pub true_false : (b : Bool) → b ≡ true → b ≡ false → ⊥
 true_false b h k = let e : true ≡ false = sym h ∙ k in cc
@@ -102,9 +101,14 @@ search_smaller row live count new fold folds heads next i t s positive =
     let few = top_within (has_slot folds (length heads) (slot_of fold (length heads))) (i - 1) in
     omega arith
 
-pub inserted : (row : ℕ → List ℤ) (live count fold : ℕ) (folds heads next : List ℕ) → IsTable row live count folds heads next → count < length folds → count < length next → slot_of fold (length heads) < length heads → fold ≡ fold_of 0 (live_at row live count)
+-- at the end of the chain no row has these live cells
+pub search_ends : (row : ℕ → List ℤ) (live count : ℕ) (new : List ℤ) (fold : ℕ) (folds : List ℕ) (size i : ℕ) → HaveFold row live count new fold folds → IsSearched row live count new fold folds size i → i ≡ 0 → (k : ℕ) → k < count → live_at row live k ≢ new
+search_ends row live count new fold folds size i have s done k less e =
+    s.past k (omega arith) less (true_slot (slot_of (get_or folds k 0) size) (slot_of fold size) (ap (λ (f : ℕ). slot_of f size) (have k less e))) e
+
+pub inserted : (row : ℕ → List ℤ) (live count fold : ℕ) (folds heads next : List ℕ) → IsTable row live count folds heads next → count < length folds → count < length next → slot_of fold (length heads) < length heads
     → IsTable row live (suc count) (set folds count fold) (set heads (slot_of fold (length heads)) (suc count)) (set next count (get_or heads (slot_of fold (length heads)) 0))
-inserted row live count fold folds heads next t in_folds in_next less is =
+inserted row live count fold folds heads next t in_folds in_next less =
     let size = length heads in
     let at = slot_of fold size in
     let same : length (set heads at (suc count)) ≡ size = length-set heads at (suc count) in
@@ -112,15 +116,10 @@ inserted row live count fold folds heads next t in_folds in_next less is =
       folds_size = let e = length-set folds count fold in omega arith;
       next_size = let e = length-set next count (get_or heads at 0) in omega arith;
       slots = subst IsPowerOfTwo (sym same) t.slots;
-      folds_are = λ k h. folded k (last_or k count h);
       heads_are = λ slot h. subst (λ (j : ℕ). get_or (set heads at (suc count)) slot 0 ≡ top (has_slot (set folds count fold) j slot) (suc count)) (sym same) (head slot (subst (λ (j : ℕ). slot < j) same h) (either slot at));
       next_are = λ k h. subst (λ (j : ℕ). get_or (set next count (get_or heads at 0)) k 0 ≡ top (has_slot (set folds count fold) j (slot_of (get_or (set folds count fold) k 0) j)) k) (sym same) (nexted k (last_or k count h));
     }
   where
-    folded : (k : ℕ) → (k ≡ count) ⊎ (k < count) → get_or (set folds count fold) k 0 ≡ fold_of 0 (live_at row live k)
-    folded k (inl e) = rw e (get_or-set_same folds count fold 0 in_folds ∙ is)
-    folded k (inr l) = get_or-set_other folds count k fold 0 (λ e. omega arith) ∙ t.folds_are k l
-
     tops2 : (slot n : ℕ) → n ≤ count → top (has_slot (set folds count fold) (length heads) slot) n ≡ top (has_slot folds (length heads) slot) n
     tops2 slot n le = top_same (has_slot folds (length heads) slot) (has_slot (set folds count fold) (length heads) slot) n (λ k h. ap (λ (f : ℕ). nat_eq (slot_of f (length heads)) slot) (get_or-set_other folds count k fold 0 (λ e. omega arith)))
 

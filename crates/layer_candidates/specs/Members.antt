@@ -10,7 +10,7 @@ use Rattle.row_region.specs.Region.{RegionView, IsLive}
 
 -- the member at the place
 abbrev pub member_at : List Member → ℕ → Member
-member_at ms i = slice_index_or ms i (record { value = pos 0; rank = pos 0; row = 0; step = 0 })
+member_at ms i = slice_index_or ms i (record { value = pos 0; rank = pos 0; hash = 0; row = 0; step = 0 })
 
 -- the places of the members' rows
 abbrev pub member_rows : List Member → List ℕ
@@ -24,11 +24,12 @@ member_as paths region m = record { decisions = paths m.step; row = held_row reg
 abbrev pub members_as : (ℕ → List ℕ) → RegionView → List Member → List Reached
 members_as paths region ms = map (member_as paths region) ms
 
--- the region has the row of the member, which is a state of the layer at depth k, with its rank
+-- the region has the row of the member, which is a state of the layer at depth k, with its rank and its hash
 pub record IsHeldAt (dp : Dp) (k : ℕ) (region : RegionView) (m : Member) : Type 0 where
   pub live : IsLive region m.row
   pub state : IsStateOf dp k (held_row region m.row)
   pub rank : m.rank ≡ dp.rank k (held_row region m.row)
+  pub hash : m.hash ≡ dp.hash k (held_row region m.row)
 
 -- and its value leaves room for a gain
 pub record IsMemberOf (dp : Dp) (k : ℕ) (region : RegionView) (m : Member) : Type 0 where

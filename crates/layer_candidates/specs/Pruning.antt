@@ -31,6 +31,11 @@ pub record IsKeyIn (dp : Dp) (k : ℕ) (region : RegionView) (key : Key) : Type 
   pub rank : key.rank ≡ dp.rank k (held_row region key.row)
   pub value : IsNearly key.value
 
+-- the key is that of one of the ways, which has the hash of the key's row
+pub record IsOfWay (dp : Dp) (k : ℕ) (region : RegionView) (ways : List Way) (key : Key) : Type 0 where
+  pub within : key.place < length ways
+  pub hash : (way_at ways key.place).hash ≡ dp.hash k (held_row region key.row)
+
 -- whether one of the leaders dominates the key
 abbrev pub led_by : Dp → ℕ → RegionView → List Key → Key → Bool
 led_by dp k region [] key = false
@@ -56,7 +61,7 @@ pub record ArePruned (dp : Dp) (k : ℕ) (most : ℕ) (region : RegionView) (key
       ≡ undominated dp k [] (all_keyed paths region ways keys)
   pub leading : leaders ≡ take 16 kept
   pub within : Each (IsKeyIn dp k region) kept
-  pub places : (n : ℕ) → Each (λ key. key.place < n) keys → Each (λ key. key.place < n) kept
+  pub own : (ways : List Way) → Each (IsOfWay dp k region ways) keys → Each (IsOfWay dp k region ways) kept
   pub few : length kept ≤ i
   pub most_stay : length kept ≤ most
 
@@ -65,6 +70,6 @@ pub record HasPruned (dp : Dp) (k : ℕ) (most : ℕ) (region : RegionView) (key
   pub list : (paths : ℕ → List ℕ) (ways : List Way) → all_keyed paths region ways kept ≡ take most (undominated dp k [] (all_keyed paths region ways keys))
   pub more_stay : (paths : ℕ → List ℕ) (ways : List Way) → more ≡ nat_lt most (length (undominated dp k [] (all_keyed paths region ways keys)))
   pub within : Each (IsKeyIn dp k region) kept
-  pub places : (n : ℕ) → Each (λ key. key.place < n) keys → Each (λ key. key.place < n) kept
+  pub own : (ways : List Way) → Each (IsOfWay dp k region ways) keys → Each (IsOfWay dp k region ways) kept
   pub few : length kept ≤ length keys
   pub most_stay : length kept ≤ most

@@ -19,10 +19,10 @@ path_at prefix steps i = slice_index_or (paths_after (prefix ∷ []) steps) i []
 abbrev pub step_of : List Way → Key → Step
 step_of ways key = record { before = (way_at ways key.place).parent; decision = (way_at ways key.place).decision }
 
--- the keys as members, by the steps after the n-th
-abbrev pub entered : ℕ → List Key → List Member
-entered n [] = []
-entered n (key ∷ keys) = record { value = key.value; rank = key.rank; row = key.row; step = n + 1 } ∷ entered (n + 1) keys
+-- the keys of ways as members, by the steps after the n-th
+abbrev pub entered : List Way → ℕ → List Key → List Member
+entered ways n [] = []
+entered ways n (key ∷ keys) = record { value = key.value; rank = key.rank; hash = (way_at ways key.place).hash; row = key.row; step = n + 1 } ∷ entered ways (n + 1) keys
 
 -- no member is reached by a step after the n-th
 abbrev pub IsReachedWithin : ℕ → Member → Type 0

@@ -1,12 +1,12 @@
 -- A table whose chains run through the places of the rows. Rows are compared from the first live cell on.
 use Rattle.std.specs.Int.{IsPowerOfTwo}
-use Rattle.std.specs.Prelude.{◌≡◌, ◌≢◌, ◌⊎◌, ℕ, zero, suc, ◌+◌, ◌-◌, ◌<◌, ◌≤◌, nat_eq, ℤ, Bool, true, cond, List, length, slice_index_or, bit_and}
+use Rattle.std.specs.Prelude.{◌≡◌, ◌≢◌, ◌⊎◌, ℕ, zero, suc, ◌+◌, ◌-◌, ◌<◌, ◌≤◌, nat_eq, ◌/◌, ◌^◌, ℤ, Bool, true, cond, List, length, slice_index_or, bit_and, bit_xor}
 use Rattle.layer_candidates.specs.Rows.{live_at}
-use Rattle.dp_model.specs.Folds.{fold_of}
+use Rattle.dp_model.specs.Folds.{spread}
 
--- the slot of a fold among this many
+-- the slot of a fold among this many: some of the upper bits of a product, which all bits of the fold reach
 abbrev pub slot_of : ℕ → ℕ → ℕ
-slot_of fold size = bit_and fold (size - 1)
+slot_of fold size = bit_and (spread (bit_xor fold (fold / 2 ^ 32)) / 2 ^ 32) (size - 1)
 
 -- one more than the greatest place below n that passes, or 0 where none does
 abbrev pub top : (ℕ → Bool) → ℕ → ℕ
@@ -22,7 +22,6 @@ pub record IsTable (row : ℕ → List ℤ) (live count : ℕ) (folds heads next
   pub folds_size : count ≤ length folds
   pub next_size : count ≤ length next
   pub slots : IsPowerOfTwo (length heads)
-  pub folds_are : (k : ℕ) → k < count → slice_index_or folds k 0 ≡ fold_of 0 (live_at row live k)
   pub heads_are : (slot : ℕ) → slot < length heads → slice_index_or heads slot 0 ≡ top (has_slot folds (length heads) slot) count
   pub next_are : (k : ℕ) → k < count → slice_index_or next k 0 ≡ top (has_slot folds (length heads) (slot_of (slice_index_or folds k 0) (length heads))) k
 
@@ -31,6 +30,10 @@ pub record IsRowFound (row : ℕ → List ℤ) (live count : ℕ) (new : List �
   pub within : place ≤ count
   pub same : place < count → live_at row live place ≡ new
   pub none : place ≡ count → (k : ℕ) → k < count → live_at row live k ≢ new
+
+-- rows with these live cells have this fold
+abbrev pub HaveFold : (ℕ → List ℤ) → ℕ → ℕ → List ℤ → ℕ → List ℕ → Type 0
+HaveFold row live count new fold folds = (k : ℕ) → k < count → live_at row live k ≡ new → slice_index_or folds k 0 ≡ fold
 
 -- of this many rows the new one was found at the place, or put in after them
 pub record IsPlaced (row : ℕ → List ℤ) (old new : ℕ) (state : List ℤ) (place : ℕ) : Type 0 where

@@ -17,7 +17,7 @@ table f (suc n) = table f n ++ f n ∷ []
 
 -- the way at the place
 abbrev pub way_at : List Way → ℕ → Way
-way_at ways i = slice_index_or ways i (record { value = pos 0; rank = pos 0; row = 0; parent = 0; decision = 0 })
+way_at ways i = slice_index_or ways i (record { value = pos 0; rank = pos 0; hash = 0; row = 0; parent = 0; decision = 0 })
 
 -- the places of the rows of the ways' states
 abbrev pub rows_of : List Way → List ℕ
@@ -53,10 +53,11 @@ pub record IsNearly (z : ℤ) : Type 0 where
   pub low : neg_ℤ (pos (2 ^ 61 + 2 ^ 50)) ≤ℤ z
   pub high : z ≤ℤ pos (2 ^ 61 + 2 ^ 50)
 
--- a way leads to a state of the layer at depth k, with its rank and a value that leaves room for gaps and rough bounds
+-- a way leads to a state of the layer at depth k, with its rank, its hash and a value that leaves room for gaps and rough bounds
 pub record IsWay (dp : Dp) (k : ℕ) (row : List ℤ) (way : Way) : Type 0 where
   pub state : IsStateOf dp k row
   pub rank : way.rank ≡ dp.rank k row
+  pub hash : way.hash ≡ dp.hash k row
   pub value : IsNearly way.value
 
 -- this many first cells are zero in each state of the layer at depth k
@@ -76,8 +77,13 @@ pub record AreDistinct (dp : Dp) (k : ℕ) (row : ℕ → List ℤ) (ways : List
   pub apart : AreDistinctRows row (length ways)
   pub good : AreWays dp k row ways
 
+-- the folds are the hashes of the states
+abbrev pub AreHashed : Dp → ℕ → (ℕ → List ℤ) → ℕ → List ℕ → Type 0
+AreHashed dp k row count folds = (i : ℕ) → i < count → slice_index_or folds i 0 ≡ dp.hash k (row i)
+
 -- the ways lead to different states, which the table has
 pub record AreJoined (dp : Dp) (k : ℕ) (row : ℕ → List ℤ) (live : ℕ) (ways : List Way) (folds heads next : List ℕ) : Type 0 where
   pub table : IsTable row live (length ways) folds heads next
+  pub hashed : AreHashed dp k row (length ways) folds
   pub apart : AreDistinctRows row (length ways)
   pub good : AreWays dp k row ways

@@ -67,12 +67,13 @@ fn most_at<M: DpModel>(model: &M, k: usize, first: usize, width: usize) -> usize
 }
 
 /// The member whose row stands at the place, without a step.
-fn first_member(value: i64, rank: i64, row: u32) -> Member
-    ensures { result ≡ record { value = value; rank = rank; row = row; step = 0 } }
+fn first_member(value: i64, rank: i64, hash: u64, row: u32) -> Member
+    ensures { result ≡ record { value = value; rank = rank; hash = hash; row = row; step = 0 } }
 {
     Member {
         value,
         rank,
+        hash,
         row,
         step: 0,
     }
@@ -156,10 +157,11 @@ impl Beam {
         ensures exchanged { HasExchanged region.old [] region.new (member_rows self.new.members.items) }
     {
         let rank = model.rank(prefix.len(), row);
+        let hash = model.hash(prefix.len(), row);
         let place = put_row(region, row);
         self.steps.clear();
         self.members.clear();
-        self.members.push_reserved(first_member(value, rank, place));
+        self.members.push_reserved(first_member(value, rank, hash, place));
     }
 
     /// The value of the first member, whose decisions are written, or none where there is no member.

@@ -19,13 +19,14 @@ fn step_by(way: Way) -> Step
     }
 }
 
-/// The key as a member, which the step reaches.
-fn member_by(key: Key, step: u32) -> Member
-    ensures { result ≡ record { value = key.value; rank = key.rank; row = key.row; step = step } }
+/// The key as a member with the hash of its state, which the step reaches.
+fn member_by(key: Key, hash: u64, step: u32) -> Member
+    ensures { result ≡ record { value = key.value; rank = key.rank; hash = hash; row = key.row; step = step } }
 {
     Member {
         value: key.value,
         rank: key.rank,
+        hash,
         row: key.row,
         step,
     }
@@ -37,7 +38,7 @@ pub fn descend(ways: &[Way], kept: &[Key], members: &mut Vec<Member>, steps: &mu
     requires members_room { length kept.now ≤ vec_capacity members.old }
     requires steps_room { length steps.old.items + length kept.now ≤ vec_capacity steps.old }
     requires small { length steps.old.items + length kept.now < 2 ^ 32 }
-    ensures members { members.new.items ≡ entered (length steps.old.items) kept.now }
+    ensures members { members.new.items ≡ entered ways.now (length steps.old.items) kept.now }
     ensures steps { steps.new.items ≡ steps.old.items ++ map (step_of ways.now) kept.now }
     ensures members_capacity { vec_capacity members.new ≡ vec_capacity members.old }
     ensures steps_capacity { vec_capacity steps.new ≡ vec_capacity steps.old }
@@ -45,7 +46,8 @@ pub fn descend(ways: &[Way], kept: &[Key], members: &mut Vec<Member>, steps: &mu
     members.clear();
     'kept: for i in 0..kept.len() {
         let key = kept[i];
-        steps.push_reserved(step_by(ways[key.place as usize]));
-        members.push_reserved(member_by(key, steps.len() as u32));
+        let way = ways[key.place as usize];
+        steps.push_reserved(step_by(way));
+        members.push_reserved(member_by(key, way.hash, steps.len() as u32));
     }
 }

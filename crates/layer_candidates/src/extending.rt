@@ -15,6 +15,7 @@ ghost use Rattle.row_region.specs.Region.{IsLive};
 use crate::holding::{move_out, next_spot, take_row};
 use crate::member::Member;
 use crate::parent::Parent;
+use crate::rows::row_of;
 use crate::table::WayTable;
 use crate::way::Way;
 use dp_model::{DpModel, Extended};
@@ -52,12 +53,13 @@ fn write_state<M: DpModel>(
     )
 }
 
-/// The way from a parent by a decision, with the row of its state.
-fn way_of(parent: Parent, gained: Extended, decision: u32, row: u32) -> Way
+/// The way from a parent by a decision, with the hash and the row of its state.
+fn way_of(parent: Parent, gained: Extended, hash: u64, decision: u32, row: u32) -> Way
     requires near { IsNear parent.value }
     requires small { IsSmall gained.gain }
     ensures value { result.value ≡ (parent.entry.value +ℤ gained.gain) }
     ensures rank { result.rank ≡ gained.rank }
+    ensures hash { result.hash ≡ hash }
     ensures row { result.row ≡ row }
     ensures parent { result.parent ≡ parent.entry.step }
     ensures decision { result.decision ≡ decision }
@@ -65,6 +67,7 @@ fn way_of(parent: Parent, gained: Extended, decision: u32, row: u32) -> Way
     Way {
         value: parent.value + gained.gain,
         rank: gained.rank,
+        hash,
         row,
         parent: parent.step,
         decision,
@@ -97,6 +100,7 @@ pub fn extend_by<M: DpModel>(
     requires state { IsTrue ((M.meaning (M.numbers model.now)).is_state k parent.state.now) }
     requires value { IsNear parent.value }
     requires rank { parent.rank ≡ (M.meaning (M.numbers model.now)).rank k parent.state.now }
+    requires hash { parent.hash ≡ (M.meaning (M.numbers model.now)).hash k parent.state.now }
     requires choice { decision < (M.meaning (M.numbers model.now)).choices k }
     requires live { table.old.live ≤ (M.meaning (M.numbers model.now)).words }
     requires zeros { AllHaveZeros (M.meaning (M.numbers model.now)) (k + 1) table.old.live }
@@ -115,7 +119,9 @@ pub fn extend_by<M: DpModel>(
     ensures room { KeepsTableRoom table.old table.new }
 {
     let gained = write_state(model, k, parent, decision, region, *spot)?;
-    let way = way_of(parent, gained, decision, spot.place);
+    let next = row_of(region, spot.place);
+    let hash = model.next_hash(k, parent.state, parent.hash, decision, next);
+    let way = way_of(parent, gained, hash, decision, spot.place);
     let count = table.ways.len();
     let place = table.take_in(region, way);
     next_spot(region, spot, place == count);
@@ -139,6 +145,7 @@ fn extend_member<M: DpModel>(
     requires state { IsTrue ((M.meaning (M.numbers model.now)).is_state k s.now) }
     requires value { IsNear member.value }
     requires rank { member.rank ≡ (M.meaning (M.numbers model.now)).rank k s.now }
+    requires hash { member.hash ≡ (M.meaning (M.numbers model.now)).hash k s.now }
     requires live { table.old.live ≤ (M.meaning (M.numbers model.now)).words }
     requires zeros { AllHaveZeros (M.meaning (M.numbers model.now)) (k + 1) table.old.live }
     requires words { region.old.words ≡ (M.meaning (M.numbers model.now)).words }

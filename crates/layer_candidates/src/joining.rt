@@ -1,12 +1,12 @@
 //! Of each state the first way of greatest value is kept.
 
-ghost use Rattle.std.specs.Prelude.{◌≡◌, ℕ, ◌+◌, ◌^◌, ◌<◌, ◌≤◌, ◌∷◌, ◌++◌, [], List, length, vec_capacity};
+ghost use Rattle.std.specs.Prelude.{◌≡◌, ℕ, ◌+◌, ◌^◌, ◌<◌, ◌≤◌, ◌∷◌, ◌++◌, [], List, drop, length, vec_capacity};
 ghost use Rattle.dp_model.specs.Dp.{Dp};
 ghost use Rattle.dp_model.specs.Lists.{Each};
 ghost use Rattle.dp_laws.specs.Restricted.Extensions.{joined};
 ghost use Rattle.layer_candidates.specs.HeldRows.{held_row};
 ghost use Rattle.layer_candidates.specs.Rows.{HasZeros};
-ghost use Rattle.layer_candidates.specs.Table.{IsTable, IsPlaced};
+ghost use Rattle.layer_candidates.specs.Table.{HaveFold, IsTable, IsPlaced};
 ghost use Rattle.layer_candidates.specs.Ways.{bettered, reached_by, rows_of, way_row, all_reached, IsWay, AreDistinctRows};
 ghost use Rattle.layer_candidates.specs.WayTables.{IsWayTable, HasTableRoom, KeepsTableRoom};
 ghost use Rattle.row_region.specs.Region.{IsLive};
@@ -14,7 +14,6 @@ ghost use Rattle.row_region.specs.Region.{IsLive};
 use crate::rows::live_cells_of;
 use crate::table::WayTable;
 use crate::way::Way;
-use dp_model::fold;
 use row_region::Region;
 
 impl WayTable {
@@ -27,6 +26,7 @@ impl WayTable {
         requires live { self.old.live ≤ region.now.words }
         requires zeros { (i : ℕ) → i < length self.old.ways.items → HasZeros self.old.live (way_row region.now self.old.ways.items i) }
         requires new_zeros { HasZeros self.old.live (held_row region.now way.row) }
+        requires hash { HaveFold (way_row region.now self.old.ways.items) self.old.live (length self.old.ways.items) (drop self.old.live (held_row region.now way.row)) way.hash self.old.folds.items }
         requires room { HasTableRoom (length self.old.ways.items + 1) self.old }
         ensures joined { (dp : Dp) (k : ℕ) → IsWayTable dp k region.now self.old → IsWay dp k (held_row region.now way.row) way → IsWayTable dp k region.now self.new }
         ensures list { (paths : ℕ → List ℕ) → AreDistinctRows (way_row region.now self.old.ways.items) (length self.old.ways.items) → all_reached paths (way_row region.now self.new.ways.items) self.new.ways.items ≡ joined (all_reached paths (way_row region.now self.old.ways.items) self.old.ways.items) (reached_by paths (held_row region.now way.row) way) }
@@ -39,10 +39,9 @@ impl WayTable {
     {
         let count = self.ways.len();
         let new = live_cells_of(region, self.live, way.row);
-        let folded = fold(0, new);
-        let place = self.find(region, new, folded);
+        let place = self.find(region, new, way.hash);
         if place == count {
-            self.enter(folded);
+            self.enter(way.hash);
             self.ways.push_reserved(way);
         } else {
             better(self.ways.as_mut_slice(), place, way);

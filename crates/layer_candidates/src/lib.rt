@@ -1,7 +1,7 @@
 //! Beams in memory: the layers of a restricted diagram, made one after another, and its beam.
 //!
 //! The members of a layer are extended by each allowed decision. Of each state the first way of greatest value is kept: equal
-//! states are found by a table of folds, and compared cell by cell. The ways that are not struck are put into the reduction order,
+//! states are found by a table of hashes, and compared cell by cell. The ways that are not struck are put into the reduction order,
 //! those that are dominated go, and the first ones stay.
 //!
 //! It stands on `dp_model`, `dp_laws` and `row_region`, and each layer is proved to be the one that is defined in `dp_laws` on

@@ -11,6 +11,8 @@ pub struct Parent<'s> {
     pub value: i64,
     /// The rank of the state in its layer.
     pub rank: i64,
+    /// The hash of the state in its layer.
+    pub hash: u64,
     /// The state.
     pub state: &'s [i64],
 }
@@ -21,12 +23,14 @@ impl<'s> Parent<'s> {
         ensures step { result.step ≡ member.step }
         ensures value { result.value ≡ member.value }
         ensures rank { result.rank ≡ member.rank }
+        ensures hash { result.hash ≡ member.hash }
         ensures state { result.state.now ≡ state.now }
     {
         Parent {
             step: member.step,
             value: member.value,
             rank: member.rank,
+            hash: member.hash,
             state,
         }
     }

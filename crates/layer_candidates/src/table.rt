@@ -1,11 +1,10 @@
 //! The ways to a layer, and the table that finds the way of a state. Rows are compared from the first live cell on.
 
 ghost use Rattle.std.specs.Int.{IsPowerOfTwo};
-ghost use Rattle.std.specs.Prelude.{◌≡◌, ℕ, ◌+◌, ◌^◌, ◌<◌, ◌≤◌, ℤ, List, ◌↔◌, length, vec_len, slice_index_or, IfOk, IsTrue};
+ghost use Rattle.std.specs.Prelude.{◌≡◌, ℕ, ◌+◌, ◌^◌, ◌<◌, ◌≤◌, ℤ, List, ◌↔◌, length, vec_len, slice_index_or, slice_set, IfOk, IsTrue};
 ghost use Rattle.dp_model.specs.Lists.{Each};
 ghost use Rattle.layer_candidates.specs.Rows.{live_at};
-ghost use Rattle.dp_model.specs.Folds.{fold_of};
-ghost use Rattle.layer_candidates.specs.Table.{slot_of, IsTable, IsRowFound};
+ghost use Rattle.layer_candidates.specs.Table.{slot_of, HaveFold, IsTable, IsRowFound};
 ghost use Rattle.layer_candidates.specs.Ways.{rows_of, way_row};
 ghost use Rattle.layer_candidates.specs.WayTables.{HasTableRoom, HasSlots, HasNoWays, KeepsTableRoom};
 ghost use Rattle.row_region.specs.Region.{IsLive};
@@ -26,7 +25,7 @@ pub struct WayTable {
     pub(crate) live: usize,
     // the most slots, a power of two
     pub(crate) slots: usize,
-    // the fold of each row
+    // the hash of each row
     pub(crate) folds: Vec<u64>,
     // for each slot one more than the place of its last row, or zero
     pub(crate) heads: Vec<u32>,
@@ -34,13 +33,17 @@ pub struct WayTable {
     pub(crate) next: Vec<u32>,
 }
 
-/// The slot of a fold, of a number of slots that is a power of two: each of them is the slot of some folds.
+// 2^64 divided by the golden ratio, made odd.
+const FACTOR: u64 = 0x9e37_79b9_7f4a_7c15;
+
+/// The slot of a fold, of a number of slots that is a power of two. Folds may differ in any of their bits, and a product spreads these.
 fn slot(fold: u64, size: usize) -> usize
     requires { IsPowerOfTwo size }
     ensures slot { result ≡ slot_of fold size }
     ensures within { result < size }
 {
-    fold as usize & (size - 1)
+    let halves = fold ^ (fold >> 32);
+    (halves.wrapping_mul(FACTOR) >> 32) as usize & (size - 1)
 }
 
 /// The number of slots that serves for a number of rows: a power of two, at most `slots`. It is no less than the rows, unless
@@ -93,8 +96,7 @@ impl WayTable {
         requires way { place < length self.now.ways.items }
         requires held { Each (IsLive region.now) (rows_of self.now.ways.items) }
         requires live { self.now.live ≤ region.now.words }
-        requires folds { slice_index_or self.now.folds.items place 0 ≡ fold_of 0 (live_at (way_row region.now self.now.ways.items) self.now.live place) }
-        requires fold { fold ≡ fold_of 0 new.now }
+        requires fold { live_at (way_row region.now self.now.ways.items) self.now.live place ≡ new.now → slice_index_or self.now.folds.items place 0 ≡ fold }
         ensures { IsTrue result ↔ (live_at (way_row region.now self.now.ways.items) self.now.live place ≡ new.now) }
     {
         self.folds[place] == fold
@@ -106,7 +108,7 @@ impl WayTable {
         requires table { IsTable (way_row region.now self.now.ways.items) self.now.live (length self.now.ways.items) self.now.folds.items self.now.heads.items self.now.next.items }
         requires held { Each (IsLive region.now) (rows_of self.now.ways.items) }
         requires live { self.now.live ≤ region.now.words }
-        requires fold { fold ≡ fold_of 0 new.now }
+        requires fold { HaveFold (way_row region.now self.now.ways.items) self.now.live (length self.now.ways.items) new.now fold self.now.folds.items }
         ensures { IsRowFound (way_row region.now self.now.ways.items) self.now.live (length self.now.ways.items) new.now result }
     {
         let mut i = self.heads[slot(fold, self.heads.len())] as usize;
@@ -127,7 +129,8 @@ impl WayTable {
         requires next { length self.old.ways.items < length self.old.next.items }
         requires heads { IsPowerOfTwo (length self.old.heads.items) }
         ensures table { (row : ℕ → List ℤ) (live : ℕ) → IsTable row live (length self.old.ways.items) self.old.folds.items self.old.heads.items self.old.next.items
-            → fold ≡ fold_of 0 (live_at row live (length self.old.ways.items)) → IsTable row live (length self.old.ways.items + 1) self.new.folds.items self.new.heads.items self.new.next.items }
+            → IsTable row live (length self.old.ways.items + 1) self.new.folds.items self.new.heads.items self.new.next.items }
+        ensures folds { self.new.folds.items ≡ slice_set self.old.folds.items (length self.old.ways.items) fold }
         ensures ways { self.new.ways ≡ self.old.ways }
         ensures live { self.new.live ≡ self.old.live }
         ensures room { KeepsTableRoom self.old self.new }

@@ -5,6 +5,8 @@ pub struct Way {
     pub value: i64,
     /// The rank of the state in its layer.
     pub rank: i64,
+    /// The hash of the state in its layer.
+    pub hash: u64,
     /// The place of the state's row.
     pub row: u32,
     /// The step by which the parent is reached.

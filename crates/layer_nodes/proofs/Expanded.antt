@@ -193,7 +193,7 @@ pub members-of : (dp : Dp) (k : ℕ) (region : RegionView) (i : ℕ) (row : ℕ 
 members-of dp k region i row arcs [] held h = tt
 members-of dp k region i row arcs (node ∷ nodes) held h =
     let same = sym (held-is region node.row (row node.row) held.0.found) in (
-      record { held = record { live = (row node.row, held.0.found); state = subst (IsStateOf dp k) same h.0.state; rank = h.0.rank ∙ ap (dp.rank k) same }; value = h.0.value },
+      record { held = record { live = (row node.row, held.0.found); state = subst (IsStateOf dp k) same h.0.state; rank = h.0.rank ∙ ap (dp.rank k) same; hash = h.0.hash ∙ ap (dp.hash k) same }; value = h.0.value },
       members-of dp k region (i + 1) row arcs nodes held.1 h.1,
     )
 
@@ -239,7 +239,7 @@ module _ (dp : Dp) (k : ℕ) (row : ℕ → List ℤ) (ways : List Way) (marks :
   keys-ranked distinct any [] h found = tt
   keys-ranked distinct any (key ∷ ks) h found =
       let way = distinct.good key.place h.0.within in (
-        record { state = subst (IsStateOf dp (k + 1)) (sym found.0) way.state; rank = ap (λ (x : Key). x.rank) h.0.is ∙ (way.rank ∙ ap (dp.rank (k + 1)) (sym found.0)) },
+        record { state = subst (IsStateOf dp (k + 1)) (sym found.0) way.state; rank = ap (λ (x : Key). x.rank) h.0.is ∙ (way.rank ∙ ap (dp.rank (k + 1)) (sym found.0)); hash = way.hash ∙ ap (dp.hash (k + 1)) (sym found.0) },
         keys-ranked distinct any ks h.1 found.1,
       )
 

@@ -93,11 +93,11 @@ pub taken-among : (region : RegionView) (row : ℕ → List ℤ) (old now : List
 taken-among region row old now n have among = among-each (λ (p : ℕ). IsRow region p (row p)) (rows_in old) (rows_in (take n now)) (among-map (λ (node : Node). node.row) old (take n now) (among-take n old now among)) have
 
 -- the first node of all
-pub started-views : (old new : RegionView) (place : ℕ) (row : List ℤ) (value rank : ℤ) → HasPut old place row new → length row ≡ old.words
-    → map (node_view_by (held_row new) []) (record { value = value; rank = rank; suffix = None; parent = None; row = place; decision = 0; first_arc = 0; arcs = 0; exact = true } ∷ [])
-    ≡ record { row = row; place = place; value = value; rank = rank; exact = true; parent = None; decision = 0; arcs = []; suffix = None } ∷ []
-started-views old new place row value rank put long =
-    ap (λ (r : List ℤ). record { row = r; place = place; value = value; rank = rank; exact = true; parent = None; decision = 0; arcs = []; suffix = None } ∷ []) (held-is new place row (put_row old new place row put long).found)
+pub started-views : (old new : RegionView) (place : ℕ) (row : List ℤ) (value rank : ℤ) (hash : ℕ) → HasPut old place row new → length row ≡ old.words
+    → map (node_view_by (held_row new) []) (record { value = value; rank = rank; hash = hash; suffix = None; parent = None; row = place; decision = 0; first_arc = 0; arcs = 0; exact = true } ∷ [])
+    ≡ record { row = row; place = place; value = value; rank = rank; hash = hash; exact = true; parent = None; decision = 0; arcs = []; suffix = None } ∷ []
+started-views old new place row value rank hash put long =
+    ap (λ (r : List ℤ). record { row = r; place = place; value = value; rank = rank; hash = hash; exact = true; parent = None; decision = 0; arcs = []; suffix = None } ∷ []) (held-is new place row (put_row old new place row put long).found)
 
 -- ---- a row is read
 

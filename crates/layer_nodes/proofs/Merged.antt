@@ -163,13 +163,13 @@ module _ (dp : Dp) (k width : ℕ) (old now new : RegionView) (nodes : List Node
       → (best : Option ℤ) (redirects : List (Option Redirect)) (node : Node) (nodes2 : List Node)
       → best ≡ greatest (lifted dp k into (map (bare (held_row old)) (drop (width - 1) nodes)))
       → redirects ≡ map (merge_redirect dp k (width - 1) into) (map (bare (held_row old)) (drop (width - 1) nodes)) → Each IsShort redirects
-      → node ≡ record { value = unwrap_or best (pos 0); rank = dp.rank k into; suffix = None; parent = None; row = place; decision = 0; first_arc = 0; arcs = 0; exact = false }
+      → node ≡ record { value = unwrap_or best (pos 0); rank = dp.rank k into; hash = dp.hash k into; suffix = None; parent = None; row = place; decision = 0; first_arc = 0; arcs = 0; exact = false }
       → nodes2 ≡ take (width - 1) nodes ++ node ∷ [] → HasMerged dp k width old nodes new nodes2 redirects
   has-merged have merged state best redirects node nodes2 value targets short is list =
       let front = rows_in (take n nodes) in
       let first = first-exchanged old now nodes n live given in
       let best_is : best ≡ greatest (lifted dp k (row_of_all dp k last) last) = value ∙ ap (λ r. greatest (lifted dp k r last)) merged in
-      let all = list ∙ ap (λ m. take n nodes ++ m ∷ []) (is ∙ ap₂ (λ b r. record { value = unwrap_or b (pos 0); rank = dp.rank k r; suffix = None; parent = None; row = place; decision = 0; first_arc = 0; arcs = 0; exact = false }) best_is merged) in
+      let all = list ∙ ap (λ m. take n nodes ++ m ∷ []) (is ∙ ap₂ (λ b r. record { value = unwrap_or b (pos 0); rank = dp.rank k r; hash = dp.hash k r; suffix = None; parent = None; row = place; decision = 0; first_arc = 0; arcs = 0; exact = false }) best_is merged) in
       let places : rows_in nodes2 ≡ front ++ place ∷ [] = ap rows_in all ∙ map-append (λ (m : Node). m.row) (take n nodes) (merged_at dp k place last ∷ []) in
       record {
         place = place;

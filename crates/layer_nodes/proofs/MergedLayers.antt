@@ -18,7 +18,7 @@ use Rattle.layer_nodes.specs.Holding.{AreHeld, HaveRows}
 use Rattle.layer_nodes.specs.Leading.{IsNodeBy, bare}
 use Rattle.layer_nodes.specs.Merging.{merged_at, HasMerged}
 use Rattle.layer_nodes.specs.Nodes.{NodeView, shown_below}
-use Rattle.layer_nodes.specs.Steps.{IsRanked}
+use Rattle.layer_nodes.specs.Steps.{IsNodeOf, IsRanked}
 use Rattle.layer_nodes.specs.Stored.{node_view_by, rows_in, HasArcsIn}
 use Rattle.layer_nodes.proofs.Holding.{rows-own, rows-held, views-held}
 use Rattle.layer_nodes.proofs.Merged.{strip, node-strip, redirects-strip}
@@ -72,14 +72,14 @@ module _ (dp : Dp) (k width : ℕ) (old : RegionView) (nodes : List Node) (regio
       h.targets ∙ (ap (merge_redirects dp k width) (sym (bare-seen paths row arcs nodes))
       ∙ (redirects-strip dp k width (map show nodes) ∙ ap (merge_redirects dp k width) (sym (below-seen paths row arcs nodes))))
 
-  pub merged-ranked : Each (IsNodeBy dp k (held_row old)) nodes → Each (IsRanked dp k) (map (node_view_by (held_row region) arcs) nodes2)
+  pub merged-ranked : Each (IsNodeOf dp k) (map (node_view_by (held_row old) arcs) nodes) → Each (IsRanked dp k) (map (node_view_by (held_row region) arcs) nodes2)
   merged-ranked all =
-      let IsBy : Node → Type 0 = IsNodeBy dp k row in
-      let IsGood : Node → Type 0 = λ node. IsRanked dp k (node_view_by row arcs node) in
+      let seen_by = node_view_by row arcs in
+      let ranked = Each-then (IsNodeOf dp k) (IsRanked dp k) (map seen_by nodes) (λ node g. record { state = g.state; rank = g.rank; hash = g.hash }) all in
       subst (Each (IsRanked dp k)) (sym views)
-      (Each-append (IsRanked dp k) (map (node_view_by row arcs) (take n nodes)) (view new ∷ [])
-      (Each-map (node_view_by row arcs) (IsRanked dp k) (take n nodes) (Each-then IsBy IsGood (take n nodes) (λ node g. record { state = g.state; rank = g.ranked }) (each-take IsBy n nodes all)))
-      (record { state = subst (IsStateOf dp k) (sym new-row) h.state; rank = ap (dp.rank k) (sym new-row) }, tt))
+      (Each-append (IsRanked dp k) (map seen_by (take n nodes)) (view new ∷ [])
+      (subst (Each (IsRanked dp k)) (take-map seen_by n nodes) (each-take (IsRanked dp k) n (map seen_by nodes) ranked))
+      (record { state = subst (IsStateOf dp k) (sym new-row) h.state; rank = ap (dp.rank k) (sym new-row); hash = ap (dp.hash k) (sym new-row) }, tt))
 
   pub merged-lie : Each (HasArcsIn arcs) nodes → Each (HasArcsIn arcs) nodes2
   merged-lie lie = subst (Each (HasArcsIn arcs)) (sym h.list) (Each-append (HasArcsIn arcs) (take n nodes) (new ∷ []) (each-take (HasArcsIn arcs) n nodes lie) (omega arith, tt))

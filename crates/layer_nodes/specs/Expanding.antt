@@ -20,7 +20,7 @@ use Rattle.layer_nodes.specs.Stored.{node_view_by, rows_in, HasArcsIn}
 
 -- a node as a member of a layer, reached by the step of its place
 abbrev pub member_of : Node → ℕ → Member
-member_of node i = record { value = node.value; rank = node.rank; row = node.row; step = i }
+member_of node i = record { value = node.value; rank = node.rank; hash = node.hash; row = node.row; step = i }
 
 -- the nodes from the place i on as members
 abbrev pub members_from : ℕ → List Node → List Member
@@ -29,7 +29,7 @@ members_from i (node ∷ nodes) = member_of node i ∷ members_from (i + 1) node
 
 -- the node at the place
 abbrev pub node_in : List Node → ℕ → Node
-node_in nodes i = slice_index_or nodes i (record { value = pos 0; rank = pos 0; suffix = None; parent = None; row = 0; decision = 0; first_arc = 0; arcs = 0; exact = false })
+node_in nodes i = slice_index_or nodes i (record { value = pos 0; rank = pos 0; hash = 0; suffix = None; parent = None; row = 0; decision = 0; first_arc = 0; arcs = 0; exact = false })
 
 -- a node's state and mark, with a decision
 pub record Trial : Type 0 where
@@ -138,6 +138,7 @@ abbrev pub node_of : List Way → List Bool → Key → Node
 node_of ways marks key = record {
   value = key.value;
   rank = key.rank;
+  hash = (way_at ways key.place).hash;
   suffix = None;
   parent = Some (way_at ways key.place).parent;
   row = key.row;

@@ -17,7 +17,7 @@ abbrev pub HaveRows : RegionView → (ℕ → List ℤ) → List ℕ → Type 0
 HaveRows region row places = Each (λ (place : ℕ). IsRow region place (row place)) places
 
 -- the row was put into the region, and the one node has it, which is exact and has neither parent nor arcs
-pub record HasStarted (row : List ℤ) (value rank : ℤ) (old new : RegionView) (nodes : List NodeView) : Type 0 where
+pub record HasStarted (row : List ℤ) (value rank : ℤ) (hash : ℕ) (old new : RegionView) (nodes : List NodeView) : Type 0 where
   pub place : ℕ
-  pub nodes_are : nodes ≡ record { row = row; place = place; value = value; rank = rank; exact = true; parent = None; decision = 0; arcs = []; suffix = None } ∷ []
+  pub nodes_are : nodes ≡ record { row = row; place = place; value = value; rank = rank; hash = hash; exact = true; parent = None; decision = 0; arcs = []; suffix = None } ∷ []
   pub put : HasPut old place row new

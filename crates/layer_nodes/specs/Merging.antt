@@ -31,6 +31,7 @@ abbrev pub merged_at : Dp → ℕ → ℕ → List DdNode → Node
 merged_at dp k place nodes = record {
   value = (merged_node dp k nodes).value;
   rank = dp.rank k (row_of_all dp k nodes);
+  hash = dp.hash k (row_of_all dp k nodes);
   suffix = None;
   parent = None;
   row = place;

@@ -1,9 +1,10 @@
 -- The nodes of a layer in memory, and the nodes of a diagram that they stand for.
 use Rattle.std.specs.Prelude.{ℕ, zero, suc, ◌+◌, ℤ, Bool, List, [], ◌∷◌, map, Option}
+use Rattle.dp_model.specs.Dp.{Dp}
 use Rattle.dp_laws.specs.declared.arc.DdArc.{DdArc}
 use Rattle.dp_laws.specs.Diagrams.Nodes.{DdNode, path_below}
 
--- a node in memory: with its rank, and with the place of its parent in the layer above and its decision, which stand for its
+-- a node in memory: with its rank and its hash, and with the place of its parent in the layer above and its decision, which stand for its
 -- path; a merged node and the first one of all have no parent
 pub record NodeView : Type 0 where
   pub row : List ℤ
@@ -11,11 +12,25 @@ pub record NodeView : Type 0 where
   pub place : ℕ
   pub value : ℤ
   pub rank : ℤ
+  pub hash : ℕ
   pub exact : Bool
   pub parent : Option ℕ
   pub decision : ℕ
   pub arcs : List DdArc
   pub suffix : Option ℤ
+
+-- what is told of a state beside its cells: its rank and its hash
+pub record Told : Type 0 where
+  pub rank : ℤ
+  pub hash : ℕ
+
+-- of the state of a node in memory
+abbrev pub told_by : NodeView → Told
+told_by node = record { rank = node.rank; hash = node.hash }
+
+-- of a state of the layer at depth k
+abbrev pub told_of : Dp → ℕ → List ℤ → Told
+told_of dp k row = record { rank = dp.rank k row; hash = dp.hash k row }
 
 -- the nodes of a layer in order, the length of their rows, and for how many nodes and arcs there is room
 pub record LayerView : Type 0 where

@@ -8,22 +8,25 @@ use Rattle.layer_candidates.specs.Ways.{IsNear, IsNearly}
 use Rattle.layer_nodes.specs.Holding.{places_of}
 use Rattle.layer_nodes.specs.Nodes.{NodeView, LayerView, without_arcs}
 
--- a node of the layer at depth k that may be extended: its row is a state, with its rank, and its value leaves room for a gain
+-- a node of the layer at depth k that may be extended: its row is a state, with its rank and its hash, and its value leaves room for a gain
 pub record IsParent (dp : Dp) (k : ℕ) (node : NodeView) : Type 0 where
   pub state : IsStateOf dp k node.row
   pub rank : node.rank ≡ dp.rank k node.row
+  pub hash : node.hash ≡ dp.hash k node.row
   pub value : IsNear node.value
 
--- a node of the layer at depth k: its row is a state, with its rank, and its value leaves room for gaps and rough bounds
+-- a node of the layer at depth k: its row is a state, with its rank and its hash, and its value leaves room for gaps and rough bounds
 pub record IsNodeOf (dp : Dp) (k : ℕ) (node : NodeView) : Type 0 where
   pub state : IsStateOf dp k node.row
   pub rank : node.rank ≡ dp.rank k node.row
+  pub hash : node.hash ≡ dp.hash k node.row
   pub value : IsNearly node.value
 
--- a row is a state, with its rank
+-- a row is a state, with its rank and its hash
 pub record IsRanked (dp : Dp) (k : ℕ) (node : NodeView) : Type 0 where
   pub state : IsStateOf dp k node.row
   pub rank : node.rank ≡ dp.rank k node.row
+  pub hash : node.hash ≡ dp.hash k node.row
 
 -- the arcs of the node may be lengthened by a gap
 abbrev pub MayBeLengthened : NodeView → Type 0

@@ -14,6 +14,7 @@ node_view_by row arcs node = record {
   place = node.row;
   value = node.value;
   rank = node.rank;
+  hash = node.hash;
   exact = node.exact;
   parent = node.parent;
   decision = node.decision;

@@ -58,6 +58,7 @@ fn try_by<M: DpModel>(
     requires state { IsTrue ((M.meaning (M.numbers model.now)).is_state k attempt.parent.state.now) }
     requires value { IsNear attempt.parent.value }
     requires rank { attempt.parent.rank ≡ (M.meaning (M.numbers model.now)).rank k attempt.parent.state.now }
+    requires hash { attempt.parent.hash ≡ (M.meaning (M.numbers model.now)).hash k attempt.parent.state.now }
     requires choice { attempt.decision < (M.meaning (M.numbers model.now)).choices k }
     requires live { found.old.table.live ≤ (M.meaning (M.numbers model.now)).words }
     requires zeros { AllHaveZeros (M.meaning (M.numbers model.now)) (k + 1) found.old.table.live }
@@ -127,6 +128,7 @@ fn try_node<M: DpModel>(
     requires state { IsTrue ((M.meaning (M.numbers model.now)).is_state k node.state.now) }
     requires value { IsNear node.member.value }
     requires rank { node.member.rank ≡ (M.meaning (M.numbers model.now)).rank k node.state.now }
+    requires hash { node.member.hash ≡ (M.meaning (M.numbers model.now)).hash k node.state.now }
     requires live { found.old.table.live ≤ (M.meaning (M.numbers model.now)).words }
     requires zeros { AllHaveZeros (M.meaning (M.numbers model.now)) (k + 1) found.old.table.live }
     requires words { region.old.words ≡ (M.meaning (M.numbers model.now)).words }
@@ -168,6 +170,7 @@ fn member_of(node: Node, place: usize) -> Member
     Member {
         value: node.value,
         rank: node.rank,
+        hash: node.hash,
         row: node.row,
         step: place as u32,
     }

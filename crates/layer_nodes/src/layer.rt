@@ -104,19 +104,19 @@ impl Layer {
     }
 
     /// Becomes a layer with one exact node, which has no parent and no arcs. Its row is put into the region.
-    pub fn start(&mut self, region: &mut Region, row: &[i64], value: i64, rank: i64)
+    pub fn start(&mut self, region: &mut Region, row: &[i64], value: i64, rank: i64, hash: u64)
         requires room { 1 ≤ self.old.nodes_room }
         requires cells { length row.now ≡ self.old.words }
         requires words { region.old.words ≡ self.old.words }
         requires spare { 0 < region.old.spare }
-        ensures node { HasStarted row.now value rank region.old region.new self.new.nodes }
+        ensures node { HasStarted row.now value rank hash region.old region.new self.new.nodes }
         ensures rooms { KeepsRoom self.old self.new }
     {
         let place = put_row(region, row);
         self.arcs.clear();
         self.nodes.clear();
         self.nodes
-            .push_reserved(lone_node(place, value, rank, true));
+            .push_reserved(lone_node(place, value, rank, hash, true));
         self.held = Snapshot::of(region);
     }
 

@@ -157,6 +157,7 @@ fn merge_nodes<M: DpModel>(
     let last = nodes_from(nodes.as_slice(), first);
     merge_into_row(model, k, region, last, into);
     let rank = model.rank(k, into);
+    let hash = model.hash(k, into);
     redirects.clear();
     let merged = MergedRow {
         state: into,
@@ -167,7 +168,8 @@ fn merge_nodes<M: DpModel>(
     give_rows(region, last);
     let place = put_row(region, into);
     nodes.truncate(first);
-    nodes.push_reserved(lone_node(place, best.unwrap_or(0), rank, false));
+    let value = best.unwrap_or(0);
+    nodes.push_reserved(lone_node(place, value, rank, hash, false));
 }
 
 /// Merges the nodes of the next layer, at depth `k`, but for the first `width - 1`, into one that stands last; the arcs of the

@@ -10,6 +10,8 @@ pub struct Node {
     pub value: i64,
     /// The rank of its state in the layer.
     pub rank: i64,
+    /// The hash of its state in the layer.
+    pub hash: u64,
     /// The greatest length of a path from it to the last layer, once it is known.
     pub suffix: Option<i64>,
     /// The place of its parent in the layer above; a merged node and the first one of all have none.
@@ -35,12 +37,13 @@ impl HasRow for Node {
 }
 
 /// A node without parent and arcs, whose row stands at the place.
-pub fn lone_node(place: u32, value: i64, rank: i64, exact: bool) -> Node
-    ensures { result ≡ record { value = value; rank = rank; suffix = None; parent = None; row = place; decision = 0; first_arc = 0; arcs = 0; exact = exact } }
+pub fn lone_node(place: u32, value: i64, rank: i64, hash: u64, exact: bool) -> Node
+    ensures { result ≡ record { value = value; rank = rank; hash = hash; suffix = None; parent = None; row = place; decision = 0; first_arc = 0; arcs = 0; exact = exact } }
 {
     Node {
         value,
         rank,
+        hash,
         suffix: None,
         parent: None,
         row: place,

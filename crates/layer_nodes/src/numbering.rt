@@ -88,6 +88,7 @@ fn node_of(way: Way, key: Key, exact: bool) -> Node
     Node {
         value: key.value,
         rank: key.rank,
+        hash: way.hash,
         suffix: None,
         parent: Some(way.parent),
         row: key.row,

@@ -1,6 +1,7 @@
 -- The order as a dynamic program: layer k decides the job that is taken next.
 use Rattle.std.specs.Prelude.{ℕ, ◌+◌, ◌*◌, ℤ, pos, neg_ℤ, Bool, ◌&&◌, cond, nat_le, List, length, Option, Some, None}
 use Rattle.dp_model.specs.Dp.{Dp}
+use Rattle.dp_model.specs.Folds.{fold_of}
 use Rattle.node_sets.specs.Sums.{count_below, sum_below}
 use Rattle.node_sets.specs.Sets.{row_word, words_for}
 use Rattle.pending_rows.specs.Pending.{Pending, must_of, shown, row_for, is_open, without, start, done, joined, covers, is_pending_row}
@@ -45,6 +46,7 @@ program_of jobs = record {
   rough = λ k s. Some (neg_ℤ (pos (least_cost jobs (shown (words_for (length jobs)) s))));
   rank = λ k s. pos (count_below (length jobs) (shown (words_for (length jobs)) s).must);
   bucket = λ k s. row_word (must_of (words_for (length jobs)) s) 0;
+  hash = λ k s. fold_of 0 s;
 }
 
 -- the dynamic program that the numbers of an instance spell

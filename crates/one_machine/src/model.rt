@@ -6,7 +6,7 @@ ghost use Rattle.pending_rows.specs.Pending.{shown, is_pending_row};
 ghost use Rattle.one_machine.specs.Program.{gap_of};
 
 use crate::instance::OneMachine;
-use dp_model::{DpModel, Extended};
+use dp_model::{DpModel, Extended, fold};
 use node_sets::{first_word, words_for};
 use pending_rows::{covers, next_open, parts_of, write_joined, write_start};
 
@@ -116,6 +116,10 @@ impl DpModel for OneMachine {
 
     fn bucket(&self, _k: usize, s: &[i64]) -> u64 {
         u64::from(first_word(parts_of(self.jobs.len(), s).must))
+    }
+
+    fn hash(&self, _k: usize, s: &[i64]) -> u64 {
+        fold(0, s)
     }
 
     fn is_state(&self, k: usize, s: &[i64]) -> bool {

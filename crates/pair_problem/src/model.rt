@@ -87,6 +87,10 @@ impl<P: PairProblem> DpModel for PairModel<P> {
         self.rows.extend(k, s, rank, d, zeros, out)
     }
 
+    fn next_hash(&self, k: usize, s: &[i64], hash: u64, d: u32, _next: &[i64]) -> u64 {
+        self.rows.next_hash(k, s, hash, d)
+    }
+
     fn rough_by_rank(&self, k: usize, s: &[i64], rank: i64) -> Option<i64> {
         self.rows.rough_by_rank(k, s, rank)
     }
@@ -97,6 +101,10 @@ impl<P: PairProblem> DpModel for PairModel<P> {
 
     fn bucket(&self, _k: usize, _s: &[i64]) -> u64 {
         0
+    }
+
+    fn hash(&self, k: usize, s: &[i64]) -> u64 {
+        self.rows.hash(k, s)
     }
 
     fn is_state(&self, k: usize, s: &[i64]) -> bool {

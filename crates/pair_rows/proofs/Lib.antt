@@ -9,3 +9,4 @@ pub mod LayerLimits
 pub mod Summing
 pub mod Handing
 pub mod Mapped
+pub mod Hashing

@@ -1,6 +1,7 @@
 pub mod Pairs
 pub mod Instance
 pub mod Limits
+pub mod Hashes
 pub mod Program
 pub mod OwnWords
 pub mod Shown

@@ -6,6 +6,7 @@ use Rattle.benefit_rows.specs.Benefits.{above_zero, below_zero, choice_gain, ran
 use Rattle.dp_model.specs.Dp.{Dp}
 use Rattle.pair_rows.specs.declared.values.UnitValues.{UnitValues}
 use Rattle.pair_rows.specs.declared.values.PairValues.{PairValues}
+use Rattle.pair_rows.specs.Hashes.{hash_of}
 use Rattle.pair_rows.specs.Pairs.{rows_of, row_at}
 use Rattle.pair_rows.specs.Instance.{Instance, unit_most, pair_most, rows_most}
 
@@ -107,4 +108,5 @@ program_of i =
       rough = λ k s. Some (rank_of (drop k s) +ℤ rows_most (drop k rows));
       rank = λ _ s. rank_of s;
       bucket = λ _ _. 0;
+      hash = λ k s. hash_of (drop k s);
     }

@@ -15,6 +15,7 @@
 //! ```
 #![tactic(auto)]
 
+mod hashes;
 mod limits;
 mod model;
 mod row;

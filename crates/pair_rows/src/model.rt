@@ -1,5 +1,6 @@
 //! The calls of `DpModel` for the program of the rows. What each call asks and gives is what `DpModel` says.
 
+use crate::hashes::{hash_of, next_hash};
 use crate::limits::are_within;
 use crate::row::{extend_row, is_zero_row, step_gain, write_step};
 use crate::rows::PairRows;
@@ -158,6 +159,24 @@ impl PairRows {
         ensures { result ≡ (program_in self.now).rough k _s.now }
     {
         Some(rank + self.later[k])
+    }
+
+    /// The hash of `s`.
+    pub fn hash(&self, k: usize, s: &[i64]) -> u64
+        requires { IsStateOf (program_in self.now) k s.now }
+        ensures { result ≡ (program_in self.now).hash k s.now }
+    {
+        hash_of(&s[k..])
+    }
+
+    /// The hash of the state that decision `d` leads to, by that of `s`.
+    pub fn next_hash(&self, k: usize, s: &[i64], hash: u64, d: u32) -> u64
+        requires state { IsTrue ((program_in self.now).is_state k s.now) }
+        requires hash { hash ≡ (program_in self.now).hash k s.now }
+        requires allowed { IsAllowed (program_in self.now) k s.now d }
+        ensures { result ≡ (program_in self.now).hash (k + 1) ((program_in self.now).step k s.now d) }
+    {
+        next_hash(hash, s[k], self.change(k, d))
     }
 
     /// How many first cells are zero in every state of layer `k`.

@@ -4,7 +4,7 @@ ghost use Rattle.std.specs.Prelude.{◌≡◌, suc, ◌+◌, ◌-◌, ◌^◌, �
 ghost use Rattle.pair_rows.specs.Pairs.{pair_count, row_at, rows_of, entries_before};
 ghost use Rattle.pair_rows.specs.Instance.{units_most};
 ghost use Rattle.pair_rows.specs.Limits.{IsInstance, units_fit};
-ghost use Rattle.pair_rows.specs.Shifts.{AreShifts, shifts_of, stakes_of};
+ghost use Rattle.pair_rows.specs.Shifts.{AreShifts, change_of, shifts_of, stakes_of};
 ghost use Rattle.pair_rows.specs.Table.{later_totals, limits_through};
 ghost use Rattle.pair_rows.specs.Program.{lesser_units, limits_at, root_of, words_of};
 ghost use Rattle.pair_rows.specs.Laws.Totals.{none_negative};
@@ -40,8 +40,8 @@ pub struct PairRows {
     ghost rooted: { root.items ≡ root_of source.value.units.items },
     ghost valued: { root_value ≡ source.value.constant +ℤ lesser_units source.value.units.items },
     ghost summed: { later.items ≡ later_totals (rows_of (length source.value.units.items) source.value.pairs.items) },
-    ghost false_shifts: { AreShifts 0 (length source.value.units.items) source.value.pairs.items on_false.cells.items on_false.stakes.items },
-    ghost true_shifts: { AreShifts 1 (length source.value.units.items) source.value.pairs.items on_true.cells.items on_true.stakes.items },
+    ghost false_shifts: { AreShifts 0 (length source.value.units.items) source.value.pairs.items on_false.cells.items on_false.stakes.items on_false.changes.items },
+    ghost true_shifts: { AreShifts 1 (length source.value.units.items) source.value.pairs.items on_true.cells.items on_true.stakes.items on_true.changes.items },
     ghost limited: { limits.items ≡ limits_through source.value.units.items source.value.pairs.items (length source.value.units.items) },
 }
 
@@ -98,6 +98,19 @@ impl PairRows {
             self.on_false.stakes[k]
         } else {
             self.on_true.stakes[k]
+        }
+    }
+
+    /// What the shifts of a decision of variable `k` add to the hash of a state.
+    pub(crate) fn change(&self, k: usize, d: u32) -> i64
+        requires variable { k < length (instance_in self.now).units }
+        requires decision { d < 2 }
+        ensures { result ≡ change_of (shifts_of d (row_at (rows_of (length (instance_in self.now).units) (instance_in self.now).pairs) k)) }
+    {
+        if d == 0 {
+            self.on_false.changes[k]
+        } else {
+            self.on_true.changes[k]
         }
     }
 

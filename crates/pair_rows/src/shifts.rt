@@ -5,8 +5,9 @@ ghost use Rattle.pair_rows.specs.Pairs.{pair_count, rows_of};
 ghost use Rattle.pair_rows.specs.Instance.{pair_most, pairs_most};
 ghost use Rattle.pair_rows.specs.Limits.{PairFits, pairs_fit};
 ghost use Rattle.pair_rows.specs.Program.{given_no, given_yes};
-ghost use Rattle.pair_rows.specs.Shifts.{AreShifts, shift_of, shifts_of, stake_of, stakes_of};
+ghost use Rattle.pair_rows.specs.Shifts.{AreShifts, change_of, shift_of, shifts_of, stake_of, stakes_of};
 
+use crate::hashes::polynomial;
 use crate::rows::row_of;
 use crate::values::PairValues;
 use std::alloc::{AllocError, Global};
@@ -18,6 +19,8 @@ pub(crate) struct Shifts {
     pub(crate) cells: Vec<i64>,
     /// By first variable: what it gives with later ones on both sides of these.
     pub(crate) stakes: Vec<i64>,
+    /// By first variable: what it adds to the hash of a state.
+    pub(crate) changes: Vec<i64>,
 }
 
 impl Shifts {
@@ -32,11 +35,16 @@ impl Shifts {
         requires whole { length pairs.now ≡ pair_count variables }
         requires positive { IsTrue (pairs_fit pairs.now) }
         requires weight { pairs_most pairs.now ≤ℤ pos (2 ^ 48) }
-        ensures { IfOk result (λ s. AreShifts d variables pairs.now s.cells.items s.stakes.items) }
+        ensures { IfOk result (λ s. AreShifts d variables pairs.now s.cells.items s.stakes.items s.changes.items) }
     {
         let cells = cells_of(alloc, pairs, d)?;
         let stakes = stakes_of(alloc, variables, pairs, d)?;
-        Ok(Shifts { cells, stakes })
+        let changes = changes_of(alloc, variables, cells.as_slice())?;
+        Ok(Shifts {
+            cells,
+            stakes,
+            changes,
+        })
     }
 }
 
@@ -81,6 +89,19 @@ fn stakes_of(
         stakes.push(row_stakes(row_of(pairs, variables, k), d))?;
     }
     Ok(stakes)
+}
+
+/// By first variable, what its shifts add to the hash of a state.
+fn changes_of(alloc: Global, variables: usize, cells: &[i64]) -> Result<Vec<i64>, AllocError>
+    requires few { variables ≤ 1024 }
+    requires whole { length cells.now ≡ pair_count variables }
+    ensures { IfOk result (λ v. v.items ≡ map change_of (rows_of variables cells.now)) }
+{
+    let mut changes = Vec::with_capacity(alloc, variables)?;
+    for k in 0..variables {
+        changes.push(polynomial(row_of(cells, variables, k)))?;
+    }
+    Ok(changes)
 }
 
 /// What a row gives on both sides of the later variables.

@@ -83,6 +83,10 @@ impl<M: DpModel> DpModel for Part<M> {
         self.model.bucket(k, s)
     }
 
+    fn hash(&self, k: usize, s: &[i64]) -> u64 {
+        self.model.hash(k, s)
+    }
+
     fn is_state(&self, k: usize, s: &[i64]) -> bool {
         if k > 0 {
             self.model.is_state(k, s)
@@ -123,6 +127,10 @@ impl<M: DpModel> DpModel for Part<M> {
         } else {
             None
         }
+    }
+
+    fn next_hash(&self, k: usize, s: &[i64], hash: u64, d: u32, next: &[i64]) -> u64 {
+        self.model.next_hash(k, s, hash, d, next)
     }
 
     fn rough_by_rank(&self, k: usize, s: &[i64], rank: i64) -> Option<i64> {

@@ -11,6 +11,7 @@ use Rattle.layer_build.specs.UnderWay.{IsUnderWay}
 use Rattle.layer_build.proofs.Pruning.{two-expanded}
 use Rattle.relaxed_dd.specs.Building.{HasReduced, HasBuilt, HasCompiled, IsStarted, with_last, with_next, compiled_from}
 use Rattle.relaxed_dd.proofs.Lasts.{length-expand, last-expand, with_rest, rest-expand, rest-none}
+use Rattle.layer_nodes.specs.Nodes.{Told}
 
 -- the first that there is
 abbrev pub first_of : Option ℕ → Option ℕ → Option ℕ
@@ -109,10 +110,10 @@ builds-all dp t start s h =
 
 -- a layer that is expanded, pruned and reduced is built
 
-abbrev after_pruning : Dp → Option ℤ → List ℤ → SpaceView → SpaceView
+abbrev after_pruning : Dp → Option ℤ → List Told → SpaceView → SpaceView
 after_pruning dp t ranks s = record s { layers = expand_last (λ l. prune dp (last_depth s + 1) t (expand dp (last_depth s) l)) s.layers; ranks = ranks }
 
-one-built : (dp : Dp) (t : Option ℤ) (s new : SpaceView) (ranks : List ℤ) → 0 < length s.layers → HasReduced dp (after_pruning dp t ranks s) new → HasBuilt dp t s new
+one-built : (dp : Dp) (t : Option ℤ) (s new : SpaceView) (ranks : List Told) → 0 < length s.layers → HasReduced dp (after_pruning dp t ranks s) new → HasBuilt dp t s new
 one-built dp t s new ranks some h =
     let first = length s.prefix in
     let w = s.width in

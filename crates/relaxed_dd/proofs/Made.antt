@@ -9,13 +9,14 @@ use Rattle.layer_build.specs.Layers.{SpaceView, IsPreparedFor}
 use Rattle.relaxed_dd.specs.Building.{HasCompiled, IsMade}
 use Rattle.relaxed_dd.specs.Numbers.{AreLayersWithin}
 use Rattle.relaxed_dd.proofs.Numbers.{compiled-within, compiled-length}
+use Rattle.layer_nodes.specs.Nodes.{Told}
 
 -- a workspace in which a prefix is begun
-abbrev pub begun : Dp → List ℕ → List ℤ → SpaceView → SpaceView
+abbrev pub begun : Dp → List ℕ → List Told → SpaceView → SpaceView
 begun dp p ranks s = record s { prefix = p; layers = start_layer (reached dp p) ∷ []; ranks = ranks; first_reduced = None; held = length p }
 
 -- and built
-abbrev built_from : Dp → List ℕ → Option ℤ → List ℤ → SpaceView → SpaceView
+abbrev built_from : Dp → List ℕ → Option ℤ → List Told → SpaceView → SpaceView
 built_from dp p t ranks s = record s {
   prefix = p;
   layers = compiled dp (length p) s.width t (length p) (dp.vars - length p) (start_layer (reached dp p));

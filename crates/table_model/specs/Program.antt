@@ -41,4 +41,5 @@ program_of t = record {
   rough = λ k s. rough_at (layer_at t.layers k) (number_in s);
   rank = λ k s. pos 0;
   bucket = λ k s. 0;
+  hash = λ k s. number_in s;
 }

@@ -125,6 +125,10 @@ impl DpModel for TableModel {
         0
     }
 
+    fn hash(&self, k: usize, s: &[i64]) -> u64 {
+        self.number(k, s) as u64
+    }
+
     fn is_state(&self, k: usize, s: &[i64]) -> bool {
         is_number(self.layer(k).states, s)
     }

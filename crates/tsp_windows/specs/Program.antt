@@ -1,6 +1,7 @@
 -- The tour as a dynamic program: layer k decides the node that is visited next, and the last layer the return to node 0.
 use Rattle.std.specs.Prelude.{ℕ, ◌+◌, ◌*◌, ℤ, pos, ◌-ℤ◌, neg_ℤ, cond, nat_lt, List, Option, Some, None, unwrap_or}
 use Rattle.dp_model.specs.Dp.{Dp}
+use Rattle.dp_model.specs.Folds.{fold_of}
 use Rattle.node_sets.specs.Sums.{count_below, least_amount}
 use Rattle.node_sets.specs.Sets.{words_for}
 use Rattle.tsp_windows.specs.Instance.{Instance, opening, instance_of}
@@ -30,6 +31,7 @@ program_of i = record {
   rough = λ k s. rough_of i k (shown (words_for i.nodes) s);
   rank = λ k s. pos (count_below i.nodes (shown (words_for i.nodes) s).pending.must);
   bucket = λ k s. unwrap_or (least_amount i.nodes (shown (words_for i.nodes) s).positions (λ p. p)) 0;
+  hash = λ k s. fold_of 0 s;
 }
 
 -- the dynamic program that the numbers of an instance spell

@@ -12,7 +12,7 @@ ghost use Rattle.tsp_windows.specs.Shown.{instance_in};
 use crate::instance::TspWindows;
 use crate::parts::{few, pending_of, positions_of, time_of};
 use crate::ways::{least_leg, ways_within};
-use dp_model::{DpModel, Extended};
+use dp_model::{DpModel, Extended, fold};
 use node_sets::{
     clear, contains, is_empty, is_set, is_subset, least, union_with, words_for, write_one,
     write_others, write_split,
@@ -419,6 +419,10 @@ impl DpModel for TspWindows {
             Some(position) => position as u64,
             None => 0,
         }
+    }
+
+    fn hash(&self, _k: usize, s: &[i64]) -> u64 {
+        fold(0, s)
     }
 
     fn is_state(&self, _k: usize, s: &[i64]) -> bool {

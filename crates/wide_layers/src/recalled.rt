@@ -90,6 +90,10 @@ impl<'p, M: DpModel> DpModel for Recalled<'p, M> {
         self.model.bucket(k, s)
     }
 
+    fn hash(&self, k: usize, s: &[i64]) -> u64 {
+        self.model.hash(k, s)
+    }
+
     fn is_state(&self, k: usize, s: &[i64]) -> bool {
         self.model.is_state(k, s)
     }
@@ -121,6 +125,10 @@ impl<'p, M: DpModel> DpModel for Recalled<'p, M> {
             }
         }
         self.model.extend(k, s, rank, d, zeros, out)
+    }
+
+    fn next_hash(&self, k: usize, s: &[i64], hash: u64, d: u32, next: &[i64]) -> u64 {
+        self.model.next_hash(k, s, hash, d, next)
     }
 
     fn rough_by_rank(&self, k: usize, s: &[i64], rank: i64) -> Option<i64> {

@@ -4,7 +4,7 @@ use Rattle.layer_candidates.proofs.descending.descend.Given as goal
 
 abbrev pub invariant-kept : goal.invariant-kept
 invariant-kept l = record {
-  members : l.members.items ≡ entered (length l.fn.steps.items) (take l.i l.kept);
+  members : l.members.items ≡ entered l.ways (length l.fn.steps.items) (take l.i l.kept);
   steps : l.steps.items ≡ l.fn.steps.items ++ map (step_of l.ways) (take l.i l.kept);
   count : length l.members.items ≡ l.i;
   steps_count : length l.steps.items ≡ length l.fn.steps.items + l.i;

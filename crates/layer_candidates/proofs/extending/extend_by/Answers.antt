@@ -7,8 +7,8 @@ use Rattle.layer_candidates.specs.HeldRows.{held_row}
 use Rattle.layer_candidates.specs.Rows.{HasZeros}
 use Rattle.layer_candidates.specs.Ways.{rows_of, way_row, IsWay, AreJoined}
 use Rattle.layer_candidates.proofs.HeldRows.{exchange-then}
-use Rattle.layer_candidates.proofs.Joined.{table-same, joined-same, reached-same}
-use Rattle.layer_candidates.proofs.Extended.{written, rows-zeros, is-way, way-reaches, extended-one, spotted}
+use Rattle.layer_candidates.proofs.Joined.{table-same, hashed-same, joined-same, reached-same}
+use Rattle.layer_candidates.proofs.Extended.{written, rows-zeros, have-fold, is-way, way-reaches, extended-one, spotted}
 use Rattle.layer_candidates.proofs.extending.extend_by.Given as given
 use Rattle.layer_candidates.proofs.extending.extend_by.Goals as goal
 use Rattle.row_region.specs.Region.{IsLive}
@@ -28,6 +28,40 @@ take_in-place-requires-clause-table g c =
     let allowed : IsAllowed dp a.k a.parent.state.now a.decision = record { layer = c.requires.layer; choice = c.requires.choice; test = sym e.allowed } in
     let w = written dp (laws_of g a.model.now) a.k a.parent.state.now a.decision a.region.now c.write_state.new.region a.spot.now.place a.table.now.ways.items c.requires.state allowed c.requires.held (e.written refl) in
     table-same (way_row a.region.now a.table.now.ways.items) (way_row c.write_state.new.region a.table.now.ways.items) a.table.now.ways.items w.rows a.table.now.live a.table.now.folds.items a.table.now.heads.items a.table.now.next.items c.requires.joined.table
+
+pub row_of-next-requires : goal.row_of-next-requires
+row_of-next-requires g c =
+    let dp = g.M.DpModel.meaning (g.M.DpModel.numbers c.args.model.now) in
+    let a = c.args in
+    let e = c.in_ok-gained.ensures in
+    let allowed : IsAllowed dp a.k a.parent.state.now a.decision = record { layer = c.requires.layer; choice = c.requires.choice; test = sym e.allowed } in
+    let w = written dp (laws_of g a.model.now) a.k a.parent.state.now a.decision a.region.now c.write_state.new.region a.spot.now.place a.table.now.ways.items c.requires.state allowed c.requires.held (e.written refl) in
+    w.exchanged.live.live.0
+
+pub next_hash-hash-requires : goal.next_hash-hash-requires
+next_hash-hash-requires g c =
+    let dp = g.M.DpModel.meaning (g.M.DpModel.numbers c.args.model.now) in
+    let a = c.args in
+    let e = c.in_ok-gained.ensures in
+    let allowed : IsAllowed dp a.k a.parent.state.now a.decision = record { layer = c.requires.layer; choice = c.requires.choice; test = sym e.allowed } in
+    let w = written dp (laws_of g a.model.now) a.k a.parent.state.now a.decision a.region.now c.write_state.new.region a.spot.now.place a.table.now.ways.items c.requires.state allowed c.requires.held (e.written refl) in
+    record { state = c.requires.state; hash = c.requires.hash; allowed = allowed; next = c.row_of-next.ensures.row ∙ w.row }
+
+pub take_in-place-requires-clause-hash : goal.take_in-place-requires-clause-hash
+take_in-place-requires-clause-hash g c =
+    let dp = g.M.DpModel.meaning (g.M.DpModel.numbers c.args.model.now) in
+    let a = c.args in
+    let e = c.in_ok-gained.ensures in
+    let allowed : IsAllowed dp a.k a.parent.state.now a.decision = record { layer = c.requires.layer; choice = c.requires.choice; test = sym e.allowed } in
+    let w = written dp (laws_of g a.model.now) a.k a.parent.state.now a.decision a.region.now c.write_state.new.region a.spot.now.place a.table.now.ways.items c.requires.state allowed c.requires.held (e.written refl) in
+    let ways = a.table.now.ways.items in
+    let mid = c.write_state.new.region in
+    let row = ap (held_row mid) c.way_of-way.ensures.row ∙ w.row in
+    let zeros = λ i less. subst (HasZeros a.table.now.live) (sym (w.rows i less)) (rows-zeros dp (a.k + 1) a.table.now.live (way_row a.region.now ways) ways c.requires.zeros c.requires.joined.good i less) in
+    have-fold dp (a.k + 1) a.table.now.live (way_row mid ways) ways a.table.now.folds.items (held_row mid c.way_of-way.result.row) c.way_of-way.result.hash
+    (hashed-same (way_row a.region.now ways) (way_row mid ways) ways w.rows dp (a.k + 1) a.table.now.folds.items c.requires.joined.hashed) zeros
+    (subst (HasZeros a.table.now.live) (sym row) (c.requires.zeros (dp.step a.k a.parent.state.now a.decision) w.state))
+    (c.way_of-way.ensures.hash ∙ (c.next_hash-hash.ensures ∙ ap (dp.hash (a.k + 1)) (c.row_of-next.ensures.row ∙ (w.row ∙ sym row))))
 
 pub take_in-place-requires-clause-held : goal.take_in-place-requires-clause-held
 take_in-place-requires-clause-held g c =
@@ -71,7 +105,7 @@ returns-clause-extended g c =
     let allowed : IsAllowed dp a.k a.parent.state.now a.decision = record { layer = c.requires.layer; choice = c.requires.choice; test = sym e.allowed } in
     let w = written dp laws a.k a.parent.state.now a.decision a.region.now mid a.spot.now.place ways c.requires.state allowed c.requires.held (e.written refl) in
     let value = h.value ∙ ap (λ z. a.parent.value +ℤ z) e.extended.0 in
-    let way = is-way dp laws a.k a.parent.state.now a.decision c.way_of-way.result a.parent.value w.here allowed c.requires.value value (h.rank ∙ e.extended.1) in
+    let way = is-way dp laws a.k a.parent.state.now a.decision c.way_of-way.result a.parent.value w.here allowed c.requires.value value (h.rank ∙ e.extended.1) (h.hash ∙ (c.next_hash-hash.ensures ∙ ap (dp.hash (a.k + 1)) (c.row_of-next.ensures.row ∙ w.row))) in
     let row = ap (held_row mid) h.row ∙ w.row in
     let was = joined-same (way_row a.region.now ways) (way_row mid ways) ways w.rows dp (a.k + 1) a.table.now.live a.table.now.folds.items a.table.now.heads.items a.table.now.next.items c.requires.joined in
     let size : c.len-count.result ≡ length ways = search rules in

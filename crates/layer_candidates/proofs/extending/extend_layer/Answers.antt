@@ -60,6 +60,14 @@ extend_member-requires-clause-rank g c κs within =
     let m = moved-at dp a.k a.region.now l.region c.move_out.new.region a.members.now l.i l.spot.place l.table.ways.items c.move_out.new.cells c.requires.members c.members-test.true l.invariant.exchanged l.invariant.same c.move_out.ensures.cells c.move_out.ensures.given in
     here.held.rank ∙ ap (dp.rank a.k) (sym m.row)
 
+pub extend_member-requires-clause-hash : goal.extend_member-requires-clause-hash
+extend_member-requires-clause-hash g c κs within =
+    let dp = g.M.DpModel.meaning (g.M.DpModel.numbers c.args.model.now) in
+    let a = c.args in let l = c.members in
+    let here = each-here (IsMemberOf dp a.k a.region.now) a.members.now l.i no_member c.requires.members c.members-test.true in
+    let m = moved-at dp a.k a.region.now l.region c.move_out.new.region a.members.now l.i l.spot.place l.table.ways.items c.move_out.new.cells c.requires.members c.members-test.true l.invariant.exchanged l.invariant.same c.move_out.ensures.cells c.move_out.ensures.given in
+    here.held.hash ∙ ap (dp.hash a.k) (sym m.row)
+
 pub extend_member-requires-clause-held : goal.extend_member-requires-clause-held
 extend_member-requires-clause-held g c κs within =
     let dp = g.M.DpModel.meaning (g.M.DpModel.numbers c.args.model.now) in

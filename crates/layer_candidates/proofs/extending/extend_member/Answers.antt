@@ -36,6 +36,11 @@ extend_by-requires-clause-rank g c κs within =
     let dp = g.M.DpModel.meaning (g.M.DpModel.numbers c.args.model.now) in
     c.of-parent.ensures.rank ∙ (c.requires.rank ∙ ap (dp.rank c.args.k) (sym c.of-parent.ensures.state))
 
+pub extend_by-requires-clause-hash : goal.extend_by-requires-clause-hash
+extend_by-requires-clause-hash g c κs within =
+    let dp = g.M.DpModel.meaning (g.M.DpModel.numbers c.args.model.now) in
+    c.of-parent.ensures.hash ∙ (c.requires.hash ∙ ap (dp.hash c.args.k) (sym c.of-parent.ensures.state))
+
 pub extend_by-requires-clause-live : goal.extend_by-requires-clause-live
 extend_by-requires-clause-live g c κs within =
     let dp = g.M.DpModel.meaning (g.M.DpModel.numbers c.args.model.now) in

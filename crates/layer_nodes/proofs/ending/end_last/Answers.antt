@@ -5,7 +5,7 @@ use Rattle.layer_nodes.proofs.Ended.{last-more, mapped-all}
 use Rattle.layer_nodes.proofs.ending.end_last.Goals as goal
 
 abbrev none : Node
-none = record { value = pos 0; rank = pos 0; suffix = None; parent = None; row = 0; decision = 0; first_arc = 0; arcs = 0; exact = false }
+none = record { value = pos 0; rank = pos 0; hash = 0; suffix = None; parent = None; row = 0; decision = 0; first_arc = 0; arcs = 0; exact = false }
 
 pub nodes-preserved : goal.nodes-preserved
 nodes-preserved c = last-more c.args.nodes.now c.nodes.nodes c.nodes.i none c.without_arcs.result c.nodes-test.true c.nodes.invariant c.without_arcs.ensures

@@ -7,7 +7,7 @@ use Rattle.layer_nodes.proofs.Ended.{end-may, end-more, mapped-all}
 use Rattle.layer_nodes.proofs.ending.end_nodes.Goals as goal
 
 abbrev none : Node
-none = record { value = pos 0; rank = pos 0; suffix = None; parent = None; row = 0; decision = 0; first_arc = 0; arcs = 0; exact = false }
+none = record { value = pos 0; rank = pos 0; hash = 0; suffix = None; parent = None; row = 0; decision = 0; first_arc = 0; arcs = 0; exact = false }
 
 pub arcs_of-own-requires : goal.arcs_of-own-requires
 arcs_of-own-requires c = (end-may c.args.arcs.now (suffixes_in c.args.next.now) c.args.nodes.now c.nodes.nodes c.nodes.i none c.requires c.nodes-test.true c.nodes.invariant).lie

@@ -82,6 +82,15 @@ try_node-requires-clause-rank g c κs within =
     let copied : c.copy_row.new.cells ≡ held_row a.region.now (node_in l.nodes l.i).row = c.copy_row.ensures ∙ stays.1 in
     ap (λ (m : Member). m.rank) c.member_of-parent.ensures ∙ (m.held.rank ∙ ap (dp.rank c.args.k) (sym copied))
 
+pub try_node-requires-clause-hash : goal.try_node-requires-clause-hash
+try_node-requires-clause-hash g c κs within =
+    let dp = g.M.DpModel.meaning (g.M.DpModel.numbers c.args.model.now) in
+    let a = c.args in let l = c.nodes in
+    let m = next-member dp a.k a.region.now a.nodes.now l.nodes l.i c.nodes-test.true l.invariant.spans c.requires.members in
+    let stays = row-stays dp a.k a.region.now a.nodes.now l.nodes l.i c.nodes-test.true l.invariant.spans c.requires.members l.region (l.spot.place ∷ rows_of l.found.table.ways.items) l.invariant.exchanged in
+    let copied : c.copy_row.new.cells ≡ held_row a.region.now (node_in l.nodes l.i).row = c.copy_row.ensures ∙ stays.1 in
+    ap (λ (m : Member). m.hash) c.member_of-parent.ensures ∙ (m.held.hash ∙ ap (dp.hash c.args.k) (sym copied))
+
 pub try_node-requires-clause-words : goal.try_node-requires-clause-words
 try_node-requires-clause-words g c κs within = c.nodes.invariant.exchanged.words ∙ c.requires.words
 

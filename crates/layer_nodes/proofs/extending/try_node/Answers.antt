@@ -37,6 +37,11 @@ try_by-requires-clause-rank g c κs within =
     let dp = g.M.DpModel.meaning (g.M.DpModel.numbers c.args.model.now) in
     c.of-from.ensures.rank ∙ (c.requires.rank ∙ ap (dp.rank c.args.k) (sym c.of-from.ensures.state))
 
+pub try_by-requires-clause-hash : goal.try_by-requires-clause-hash
+try_by-requires-clause-hash g c κs within =
+    let dp = g.M.DpModel.meaning (g.M.DpModel.numbers c.args.model.now) in
+    c.of-from.ensures.hash ∙ (c.requires.hash ∙ ap (dp.hash c.args.k) (sym c.of-from.ensures.state))
+
 pub try_by-requires-clause-live : goal.try_by-requires-clause-live
 try_by-requires-clause-live g c κs within =
     let dp = g.M.DpModel.meaning (g.M.DpModel.numbers c.args.model.now) in

@@ -1,4 +1,4 @@
-use Rattle.std.proofs.Common.{◌≡◌, ◌-◌, ◌++◌, false, None, [], ◌∷◌, length, map, drop, w64, sym, ◌∙◌, ap, ap₂, subst, arith}
+use Rattle.std.proofs.Common.{◌≡◌, ◌-◌, ◌++◌, false, None, ℕ, pos, unwrap_or, [], ◌∷◌, length, map, drop, w64, sym, ◌∙◌, ap, ap₂, subst, arith}
 use Rattle.std.proofs.lemmas.Int.{to_z-of_z}
 use Rattle.std.proofs.lemmas.List.{length-drop, length-map}
 use Rattle.dp_model.specs.Lists.{Each}
@@ -71,5 +71,6 @@ returns-clause-merged g c =
     (c.merge_targets-best.ensures.value ∙ ap (λ l. greatest (lifted dp a.k into (map (bare (held_row old)) l))) last)
     (c.merge_targets-best.ensures.redirects ∙ ap₂ (λ s l. s ++ map (merge_redirect dp a.k first into) (map (bare (held_row old)) l)) c.clear.ensures.items last)
     c.merge_targets-best.ensures.short
-    (c.lone_node.ensures ∙ ap₂ (λ v r. record { value = v; rank = r; suffix = None; parent = None; row = c.put_row-place.result; decision = 0; first_arc = 0; arcs = 0; exact = false }) (to_z-of_z w64 c.unwrap_or.result (record { sfits = c.unwrap_or.type_inv }) ∙ c.unwrap_or.ensures) (to_z-of_z w64 c.rank-rank.result (record { sfits = c.rank-rank.type_inv }) ∙ c.rank-rank.ensures))
+    (c.lone_node.ensures ∙ (ap₂ (λ v r. record { value = v; rank = r; hash = c.hash-hash.result; suffix = None; parent = None; row = c.put_row-place.result; decision = 0; first_arc = 0; arcs = 0; exact = false }) (to_z-of_z w64 c.unwrap_or-value.result (record { sfits = c.unwrap_or-value.type_inv }) ∙ c.unwrap_or-value.ensures) (to_z-of_z w64 c.rank-rank.result (record { sfits = c.rank-rank.type_inv }) ∙ c.rank-rank.ensures)
+    ∙ ap (λ (h : ℕ). record { value = unwrap_or c.merge_targets-best.result (pos 0); rank = dp.rank a.k into; hash = h; suffix = None; parent = None; row = c.put_row-place.result; decision = 0; first_arc = 0; arcs = 0; exact = false }) c.hash-hash.ensures))
     (c.push_reserved.ensures.items ∙ ap (λ l. l ++ c.lone_node.result ∷ []) c.truncate.ensures.items)

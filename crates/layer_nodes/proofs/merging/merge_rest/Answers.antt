@@ -9,7 +9,6 @@ use Rattle.layer_nodes.specs.Holding.{AreHeld, places_of}
 use Rattle.layer_nodes.specs.Nodes.{LayerView, shown_layer, shown_below}
 use Rattle.layer_nodes.specs.Steps.{IsNodeOf, IsRanked}
 use Rattle.layer_nodes.specs.Stored.{node_view_by, rows_in}
-use Rattle.layer_nodes.proofs.Given.{nodes-known}
 use Rattle.layer_nodes.proofs.Holding.{held-rows, views-held}
 use Rattle.layer_nodes.proofs.MergedLayers.{merged-next, merged-targets, merged-ranked, merged-lie, merged-few, merged-held}
 use Rattle.layer_nodes.proofs.Shown.{nodes-in, places-seen}
@@ -84,9 +83,11 @@ returns-clause-ranked g c =
     let old = a.region.now in
     let nodes2 = c.merge_nodes.new.nodes.items in
     let views = sym (ap (λ (l : LayerView). l.nodes) c.next.view_is) in
-    let all = nodes-in dp a.k old (held_row s.held.value) s.arcs.items s.nodes.items (subst (Each (IsNodeOf dp a.k)) views c.requires.nodes) (subst (AreHeld old) views c.requires.held) in
+    let own = held_row s.held.value in
+    let have = held-rows old own s.arcs.items s.nodes.items (subst (λ (l : LayerView). AreHeld old l.nodes) (sym c.next.view_is) c.requires.held) in
+    let all = subst (Each (IsNodeOf dp a.k)) (sym (views-held old own s.arcs.items s.nodes.items have)) (subst (Each (IsNodeOf dp a.k)) views c.requires.nodes) in
     subst (λ h. Each (IsRanked dp a.k) (map (node_view_by (held_row h) s.arcs.items) nodes2)) (sym c.of.ensures)
-    (merged-ranked dp a.k a.width old s.nodes.items c.merge_nodes.new.region nodes2 c.merge_nodes.new.redirects.items s.arcs.items c.merge_nodes.ensures.merged (nodes-known dp a.k old s.nodes.items all))
+    (merged-ranked dp a.k a.width old s.nodes.items c.merge_nodes.new.region nodes2 c.merge_nodes.new.redirects.items s.arcs.items c.merge_nodes.ensures.merged all)
 
 pub returns-clause-held : goal.returns-clause-held
 returns-clause-held g c =

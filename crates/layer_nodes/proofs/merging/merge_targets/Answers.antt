@@ -8,7 +8,7 @@ use Rattle.layer_nodes.proofs.Merged.{AreLifted, lifted-more}
 use Rattle.layer_nodes.proofs.merging.merge_targets.Goals as goal
 
 abbrev none : Node
-none = record { value = pos 0; rank = pos 0; suffix = None; parent = None; row = 0; decision = 0; first_arc = 0; arcs = 0; exact = false }
+none = record { value = pos 0; rank = pos 0; hash = 0; suffix = None; parent = None; row = 0; decision = 0; first_arc = 0; arcs = 0; exact = false }
 
 pub nodes-preserved : goal.nodes-preserved
 nodes-preserved g c =

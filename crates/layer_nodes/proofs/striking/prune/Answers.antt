@@ -13,7 +13,7 @@ use Rattle.layer_nodes.proofs.striking.prune.Goals as goal
 use Rattle.layer_nodes.proofs.striking.prune.Goals.{in-Some, in-None}
 
 abbrev none : Node
-none = record { value = pos 0; rank = pos 0; suffix = None; parent = None; row = 0; decision = 0; first_arc = 0; arcs = 0; exact = false }
+none = record { value = pos 0; rank = pos 0; hash = 0; suffix = None; parent = None; row = 0; decision = 0; first_arc = 0; arcs = 0; exact = false }
 
 pub nodes-init : goal.nodes-init
 nodes-init g c =

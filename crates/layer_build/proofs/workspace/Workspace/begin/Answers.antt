@@ -9,7 +9,7 @@ use Rattle.dp_model.proofs.Paths.{state_of-state, IsPrefix-length}
 use Rattle.dp_laws.specs.Diagrams.Nodes.{DdNode}
 use Rattle.dp_laws.specs.Rules.Compiling.{start_layer}
 use Rattle.layer_nodes.specs.Holding.{HasStarted}
-use Rattle.layer_nodes.specs.Nodes.{NodeView}
+use Rattle.layer_nodes.specs.Nodes.{Told, told_by, told_of, NodeView}
 use Rattle.row_region.specs.Region.{RegionView}
 use Rattle.layer_build.specs.Layers.{SpaceView}
 use Rattle.layer_build.specs.Stacked.{HasSpace, shown_stack}
@@ -35,6 +35,18 @@ rank-rank-requires g c =
     let laws = laws_of g c.args.model.now in
     let row : c.as_slice.result.now ≡ state_of dp p = c.as_slice.ensures.value ∙ (ap (λ (s : SubView). s.subproblem.row) c.sub.view_is ∙ c.requires.row) in
     subst (λ (k : ℕ). IsStateOf dp k c.as_slice.result.now) (sym first) (subst (IsStateOf dp (length p)) (sym row) (state_of-state dp laws.states p c.requires.prefix))
+
+pub hash-requires : goal.hash-requires
+hash-requires g c =
+    let dp = g.M.DpModel.meaning (g.M.DpModel.numbers c.args.model.now) in
+    let p = c.args.sub.now.subproblem.decisions in
+    let low = IsPrefix-length dp p c.requires.prefix in
+    let decisions : c.sub.inside.decisions.items ≡ p = ap (λ (s : SubView). s.subproblem.decisions) c.sub.view_is in
+    let size : c.len-first.result ≡ length c.sub.inside.decisions.items = search rules in
+    let first : c.len-first.result ≡ length p = size ∙ ap (λ (l : List ℕ). length l) decisions in
+    let laws = laws_of g c.args.model.now in
+    let row : c.as_slice-4.result.now ≡ state_of dp p = c.as_slice-4.ensures.value ∙ (ap (λ (s : SubView). s.subproblem.row) c.sub.view_is ∙ c.requires.row) in
+    subst (λ (k : ℕ). IsStateOf dp k c.as_slice-4.result.now) (sym first) (subst (IsStateOf dp (length p)) (sym row) (state_of-state dp laws.states p c.requires.prefix))
 
 pub write_all-requires : goal.write_all-requires
 write_all-requires g c =
@@ -95,7 +107,7 @@ invariant_of-self g c =
     let fits-value : FitsSigned w64 c.sub.inside.value = search rules in
     let value : to_z w64 (of_z w64 c.sub.inside.value) ≡ value_of dp p = to_z-of_z w64 c.sub.inside.value fits-value ∙ (ap (λ (s : SubView). s.subproblem.value) c.sub.view_is ∙ c.requires.value) in
     let written : c.write_all.new.to.items ≡ p = c.write_all.ensures.items ∙ (c.as_slice-2.ensures.value ∙ decisions) in
-    let seen = started-layers dp i p c.len-first.result n c.start.new.region c.as_slice-3.result.now (to_z w64 (of_z w64 c.sub.inside.value)) (to_z w64 (of_z w64 c.rank-rank.result)) _ c.start.ensures.node row value in
+    let seen = started-layers dp i p c.len-first.result n c.start.new.region c.as_slice-3.result.now (to_z w64 (of_z w64 c.sub.inside.value)) (to_z w64 (of_z w64 c.rank-rank.result)) c.hash.result _ c.start.ensures.node row value in
     let room = c.write_all.ensures.room in
     let laws = laws_of g c.args.model.now in
     let long : length c.as_slice-3.result.now ≡ i.words = ap (λ (l : List ℤ). length l) row
@@ -104,7 +116,7 @@ invariant_of-self g c =
     let fits = h.prefix_fits in
     subst (λ (q : List ℕ). HasSpace i.words i.width c.len-first.result i.choices.items q (vec_capacity c.write_all.new.to) (started i c.len-first.result n c.start.new.region) i.expansion i.redirects i.path.items i.beam) (sym written)
     (started-space dp i h p (vec_capacity c.write_all.new.to) c.len-first.result n c.start.new.region (omega arith) first (omega arith) c.start.ensures.rooms some
-    c.as_slice-3.result.now (to_z w64 (of_z w64 c.sub.inside.value)) (to_z w64 (of_z w64 c.rank-rank.result)) long (subst (λ (before : RegionView). HasStarted c.as_slice-3.result.now (to_z w64 (of_z w64 c.sub.inside.value)) (to_z w64 (of_z w64 c.rank-rank.result)) before c.start.new.region n.nodes) c.clear.ensures c.start.ensures.node) seen)
+    c.as_slice-3.result.now (to_z w64 (of_z w64 c.sub.inside.value)) (to_z w64 (of_z w64 c.rank-rank.result)) c.hash.result long (subst (λ (before : RegionView). HasStarted c.as_slice-3.result.now (to_z w64 (of_z w64 c.sub.inside.value)) (to_z w64 (of_z w64 c.rank-rank.result)) c.hash.result before c.start.new.region n.nodes) c.clear.ensures c.start.ensures.node) seen)
 
 pub returns-clause-layers : goal.returns-clause-layers
 returns-clause-layers g c =
@@ -121,13 +133,13 @@ returns-clause-layers g c =
     let fits-value : FitsSigned w64 c.sub.inside.value = search rules in
     let value : to_z w64 (of_z w64 c.sub.inside.value) ≡ value_of dp p = to_z-of_z w64 c.sub.inside.value fits-value ∙ (ap (λ (s : SubView). s.subproblem.value) c.sub.view_is ∙ c.requires.value) in
     let written : c.write_all.new.to.items ≡ p = c.write_all.ensures.items ∙ (c.as_slice-2.ensures.value ∙ decisions) in
-    let seen = started-layers dp i p c.len-first.result n c.start.new.region c.as_slice-3.result.now (to_z w64 (of_z w64 c.sub.inside.value)) (to_z w64 (of_z w64 c.rank-rank.result)) _ c.start.ensures.node row value in
+    let seen = started-layers dp i p c.len-first.result n c.start.new.region c.as_slice-3.result.now (to_z w64 (of_z w64 c.sub.inside.value)) (to_z w64 (of_z w64 c.rank-rank.result)) c.hash.result _ c.start.ensures.node row value in
     let here : the_view (record i { prefix = c.write_all.new.to; stack = started i c.len-first.result n c.start.new.region; first_reduced = None; held = c.len-first.result })
-    ≡ record c.args.self.now { prefix = p; layers = start_layer (reached dp p) ∷ []; ranks = map (λ (node : NodeView). node.rank) n.nodes; first_reduced = None; held = length p } =
-    ap (λ (q : List ℕ). record (the_view i) { room = n.nodes_room; prefix = q; layers = shown_stack q (started i c.len-first.result n c.start.new.region); ranks = map (λ (node : NodeView). node.rank) n.nodes; first_reduced = None; held = c.len-first.result }) written
-    ∙ (ap (λ (k : ℕ). record (the_view i) { room = n.nodes_room; prefix = p; layers = shown_stack p (started i c.len-first.result n c.start.new.region); ranks = map (λ (node : NodeView). node.rank) n.nodes; first_reduced = None; held = k }) first
-    ∙ (ap₂ (λ (r : ℕ) (l : List (List DdNode)). record (the_view i) { room = r; prefix = p; layers = l; ranks = map (λ (node : NodeView). node.rank) n.nodes; first_reduced = None; held = length p }) c.start.ensures.rooms.nodes_room seen
-    ∙ ap (λ (s : SpaceView). record s { prefix = p; layers = start_layer (reached dp p) ∷ []; ranks = map (λ (node : NodeView). node.rank) n.nodes; first_reduced = None; held = length p }) c.self.view_is)) in
+    ≡ record c.args.self.now { prefix = p; layers = start_layer (reached dp p) ∷ []; ranks = map told_by n.nodes; first_reduced = None; held = length p } =
+    ap (λ (q : List ℕ). record (the_view i) { room = n.nodes_room; prefix = q; layers = shown_stack q (started i c.len-first.result n c.start.new.region); ranks = map told_by n.nodes; first_reduced = None; held = c.len-first.result }) written
+    ∙ (ap (λ (k : ℕ). record (the_view i) { room = n.nodes_room; prefix = p; layers = shown_stack p (started i c.len-first.result n c.start.new.region); ranks = map told_by n.nodes; first_reduced = None; held = k }) first
+    ∙ (ap₂ (λ (r : ℕ) (l : List (List DdNode)). record (the_view i) { room = r; prefix = p; layers = l; ranks = map told_by n.nodes; first_reduced = None; held = length p }) c.start.ensures.rooms.nodes_room seen
+    ∙ ap (λ (s : SpaceView). record s { prefix = p; layers = start_layer (reached dp p) ∷ []; ranks = map told_by n.nodes; first_reduced = None; held = length p }) c.self.view_is)) in
     here
 
 pub returns-clause-under_way : goal.returns-clause-under_way
@@ -145,16 +157,18 @@ returns-clause-under_way g c =
     let fits-value : FitsSigned w64 c.sub.inside.value = search rules in
     let value : to_z w64 (of_z w64 c.sub.inside.value) ≡ value_of dp p = to_z-of_z w64 c.sub.inside.value fits-value ∙ (ap (λ (s : SubView). s.subproblem.value) c.sub.view_is ∙ c.requires.value) in
     let written : c.write_all.new.to.items ≡ p = c.write_all.ensures.items ∙ (c.as_slice-2.ensures.value ∙ decisions) in
-    let seen = started-layers dp i p c.len-first.result n c.start.new.region c.as_slice-3.result.now (to_z w64 (of_z w64 c.sub.inside.value)) (to_z w64 (of_z w64 c.rank-rank.result)) _ c.start.ensures.node row value in
+    let seen = started-layers dp i p c.len-first.result n c.start.new.region c.as_slice-3.result.now (to_z w64 (of_z w64 c.sub.inside.value)) (to_z w64 (of_z w64 c.rank-rank.result)) c.hash.result _ c.start.ensures.node row value in
     let here : the_view (record i { prefix = c.write_all.new.to; stack = started i c.len-first.result n c.start.new.region; first_reduced = None; held = c.len-first.result })
-    ≡ record c.args.self.now { prefix = p; layers = start_layer (reached dp p) ∷ []; ranks = map (λ (node : NodeView). node.rank) n.nodes; first_reduced = None; held = length p } =
-    ap (λ (q : List ℕ). record (the_view i) { room = n.nodes_room; prefix = q; layers = shown_stack q (started i c.len-first.result n c.start.new.region); ranks = map (λ (node : NodeView). node.rank) n.nodes; first_reduced = None; held = c.len-first.result }) written
-    ∙ (ap (λ (k : ℕ). record (the_view i) { room = n.nodes_room; prefix = p; layers = shown_stack p (started i c.len-first.result n c.start.new.region); ranks = map (λ (node : NodeView). node.rank) n.nodes; first_reduced = None; held = k }) first
-    ∙ (ap₂ (λ (r : ℕ) (l : List (List DdNode)). record (the_view i) { room = r; prefix = p; layers = l; ranks = map (λ (node : NodeView). node.rank) n.nodes; first_reduced = None; held = length p }) c.start.ensures.rooms.nodes_room seen
-    ∙ ap (λ (s : SpaceView). record s { prefix = p; layers = start_layer (reached dp p) ∷ []; ranks = map (λ (node : NodeView). node.rank) n.nodes; first_reduced = None; held = length p }) c.self.view_is)) in
+    ≡ record c.args.self.now { prefix = p; layers = start_layer (reached dp p) ∷ []; ranks = map told_by n.nodes; first_reduced = None; held = length p } =
+    ap (λ (q : List ℕ). record (the_view i) { room = n.nodes_room; prefix = q; layers = shown_stack q (started i c.len-first.result n c.start.new.region); ranks = map told_by n.nodes; first_reduced = None; held = c.len-first.result }) written
+    ∙ (ap (λ (k : ℕ). record (the_view i) { room = n.nodes_room; prefix = p; layers = shown_stack p (started i c.len-first.result n c.start.new.region); ranks = map told_by n.nodes; first_reduced = None; held = k }) first
+    ∙ (ap₂ (λ (r : ℕ) (l : List (List DdNode)). record (the_view i) { room = r; prefix = p; layers = l; ranks = map told_by n.nodes; first_reduced = None; held = length p }) c.start.ensures.rooms.nodes_room seen
+    ∙ ap (λ (s : SpaceView). record s { prefix = p; layers = start_layer (reached dp p) ∷ []; ranks = map told_by n.nodes; first_reduced = None; held = length p }) c.self.view_is)) in
     let laws = laws_of g c.args.model.now in
     let rank : c.rank-rank.result ≡ dp.rank (length p) (state_of dp p) = c.rank-rank.ensures ∙ (ap (λ (k : ℕ). dp.rank k c.as_slice.result.now) first
     ∙ ap (dp.rank (length p)) (c.as_slice.ensures.value ∙ (ap (λ (s : SubView). s.subproblem.row) c.sub.view_is ∙ c.requires.row))) in
     let fits-rank : FitsSigned w64 c.rank-rank.result = search rules in
-    let ranks : map (λ (node : NodeView). node.rank) n.nodes ≡ dp.rank (length p) (state_of dp p) ∷ [] = ap (map (λ (node : NodeView). node.rank)) c.start.ensures.node.nodes_are ∙ ap (λ (r : ℤ). r ∷ []) (to_z-of_z w64 c.rank-rank.result fits-rank ∙ rank) in
-    subst (IsUnderWay dp) (sym here) (start-under-way dp laws c.args.self.now p (map (λ (node : NodeView). node.rank) n.nodes) (length p) c.requires.prepared c.requires.prefix ranks)
+    let hash : c.hash.result ≡ dp.hash (length p) (state_of dp p) = c.hash.ensures ∙ (ap (λ (k : ℕ). dp.hash k c.as_slice-4.result.now) first
+    ∙ ap (dp.hash (length p)) (c.as_slice-4.ensures.value ∙ (ap (λ (s : SubView). s.subproblem.row) c.sub.view_is ∙ c.requires.row))) in
+    let ranks : map told_by n.nodes ≡ told_of dp (length p) (state_of dp p) ∷ [] = ap (map told_by) c.start.ensures.node.nodes_are ∙ ap₂ (λ (r : ℤ) (h : ℕ). (let t : Told = record { rank = r; hash = h } in t) ∷ []) (to_z-of_z w64 c.rank-rank.result fits-rank ∙ rank) hash in
+    subst (IsUnderWay dp) (sym here) (start-under-way dp laws c.args.self.now p (map told_by n.nodes) (length p) c.requires.prepared c.requires.prefix ranks)

@@ -20,6 +20,11 @@ rank-rank-requires g c =
     let dp = g.M.DpModel.meaning (g.M.DpModel.numbers c.args.model.now) in
     subst (IsStateOf dp (length c.args.prefix.now)) (sym c.requires.row) (prefix-state dp (laws_of g c.args.model.now) c.args.prefix.now c.requires.prefix)
 
+pub hash-hash-requires : goal.hash-hash-requires
+hash-hash-requires g c =
+    let dp = g.M.DpModel.meaning (g.M.DpModel.numbers c.args.model.now) in
+    subst (IsStateOf dp (length c.args.prefix.now)) (sym c.requires.row) (prefix-state dp (laws_of g c.args.model.now) c.args.prefix.now c.requires.prefix)
+
 pub put_row-place-requires-clause-cells : goal.put_row-place-requires-clause-cells
 put_row-place-requires-clause-cells g c =
     let dp = g.M.DpModel.meaning (g.M.DpModel.numbers c.args.model.now) in
@@ -35,10 +40,10 @@ returns-clause-built g c = λ w t h enough.
     let region = c.put_row-place.new.region in
     let place = c.put_row-place.result in
     let long = prefix-cells dp laws a.prefix.now a.row.now a.region.now.words c.requires.prefix c.requires.row c.requires.region_words in
-    let member : c.first_member.result ≡ record { value = a.value; rank = c.rank-rank.result; row = place; step = 0 } = search rules in
+    let member : c.first_member.result ≡ record { value = a.value; rank = c.rank-rank.result; hash = c.hash-hash.result; row = place; step = 0 } = search rules in
     let members : c.push_reserved.new.self.items ≡ c.first_member.result ∷ [] = c.push_reserved.ensures.items ∙ ap (λ (l : List Member). l ++ c.first_member.result ∷ []) c.clear-2.ensures.items in
     let new : Beam = record a.self.now { members = c.push_reserved.new.self; steps = c.clear.new.self } in
-    built-start dp laws a.prefix.now w t new region place a.row.now a.value c.rank-rank.result c.requires.prefix c.requires.shorter
+    built-start dp laws a.prefix.now w t new region place a.row.now a.value c.rank-rank.result c.hash-hash.result c.requires.prefix c.requires.shorter
     (layers-same dp w a.self.now new h (λ n m k. k) (search rules) (search rules))
     (subst (HasBeamRows dp w) put.spare enough)
     (record {
@@ -47,6 +52,7 @@ returns-clause-built g c = λ w t h enough.
       row_is = c.requires.row;
       value_is = c.requires.value;
       rank_is = c.rank-rank.ensures;
+      hash_is = c.hash-hash.ensures;
       members = members ∙ ap (λ (m : Member). m ∷ []) member;
       steps = c.clear.ensures.items;
     })
@@ -58,7 +64,7 @@ returns-clause-exchanged g c =
     let region = c.put_row-place.new.region in
     let place = c.put_row-place.result in
     let long = prefix-cells dp (laws_of g a.model.now) a.prefix.now a.row.now a.region.now.words c.requires.prefix c.requires.row c.requires.region_words in
-    let member : c.first_member.result ≡ record { value = a.value; rank = c.rank-rank.result; row = place; step = 0 } = search rules in
+    let member : c.first_member.result ≡ record { value = a.value; rank = c.rank-rank.result; hash = c.hash-hash.result; row = place; step = 0 } = search rules in
     let members : c.push_reserved.new.self.items ≡ c.first_member.result ∷ [] = c.push_reserved.ensures.items ∙ ap (λ (l : List Member). l ++ c.first_member.result ∷ []) c.clear-2.ensures.items in
     subst (HasExchanged a.region.now [] region) (sym (ap member_rows members ∙ ap (λ (m : Member). m.row ∷ []) member))
     (exchange-put a.region.now region place a.row.now c.put_row-place.ensures long [] (record { live = tt; apart = tt }))

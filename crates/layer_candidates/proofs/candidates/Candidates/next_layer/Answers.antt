@@ -76,7 +76,7 @@ returns-clause-list g c = λ prefix.
     let done : HasPruned dp (a.k + 1) a.limits.width n.region keys kept p.result = subst (λ l. HasPruned dp (a.k + 1) a.limits.width n.region l kept p.result) c.as_slice-2.ensures.value p.ensures.pruned in
     let left : HasLeft n.region (key_rows keys) p.new.region (key_rows kept) = subst (λ l. HasLeft n.region (key_rows l) p.new.region (key_rows kept)) c.as_slice-2.ensures.value p.ensures.left in
     let size = length a.steps.now.items in
-    let members : c.descend.new.members.items ≡ entered size kept = c.descend.ensures.members ∙ ap (entered size) c.as_slice-4.ensures.value in
+    let members : c.descend.new.members.items ≡ entered ways size kept = c.descend.ensures.members ∙ ap₂ (λ (w : List Way) l. entered w size l) c.as_slice-3.ensures.value c.as_slice-4.ensures.value in
     let steps : c.descend.new.steps.items ≡ a.steps.now.items ++ map (step_of ways) kept = c.descend.ensures.steps ∙ ap₂ (λ (w : List Way) l. a.steps.now.items ++ map (step_of w) l) c.as_slice-3.ensures.value c.as_slice-4.ensures.value in
     ap₂ (λ ss ms. members_as (path_at prefix ss) p.new.region ms) steps members ∙ next-list dp a.k a.limits.threshold a.region.now h.0 n.region a.members.now.items ways keys h.1 a.limits.width p.new.region kept p.result done left a.steps.now.items c.requires.reached prefix
 
@@ -107,7 +107,7 @@ returns-clause-held g c =
     let done : HasPruned dp (a.k + 1) a.limits.width n.region keys kept p.result = subst (λ l. HasPruned dp (a.k + 1) a.limits.width n.region l kept p.result) c.as_slice-2.ensures.value p.ensures.pruned in
     let left : HasLeft n.region (key_rows keys) p.new.region (key_rows kept) = subst (λ l. HasLeft n.region (key_rows l) p.new.region (key_rows kept)) c.as_slice-2.ensures.value p.ensures.left in
     let size = length a.steps.now.items in
-    let members : c.descend.new.members.items ≡ entered size kept = c.descend.ensures.members ∙ ap (entered size) c.as_slice-4.ensures.value in
+    let members : c.descend.new.members.items ≡ entered ways size kept = c.descend.ensures.members ∙ ap₂ (λ (w : List Way) l. entered w size l) c.as_slice-3.ensures.value c.as_slice-4.ensures.value in
     subst (Each (IsHeldAt dp (a.k + 1) p.new.region)) (sym members) (next-held dp a.k a.limits.threshold a.region.now h.0 n.region a.members.now.items ways keys h.1 a.limits.width p.new.region kept p.result done left a.steps.now.items)
 
 pub returns-clause-exchanged : goal.returns-clause-exchanged
@@ -123,7 +123,7 @@ returns-clause-exchanged g c =
     let done : HasPruned dp (a.k + 1) a.limits.width n.region keys kept p.result = subst (λ l. HasPruned dp (a.k + 1) a.limits.width n.region l kept p.result) c.as_slice-2.ensures.value p.ensures.pruned in
     let left : HasLeft n.region (key_rows keys) p.new.region (key_rows kept) = subst (λ l. HasLeft n.region (key_rows l) p.new.region (key_rows kept)) c.as_slice-2.ensures.value p.ensures.left in
     let size = length a.steps.now.items in
-    let members : c.descend.new.members.items ≡ entered size kept = c.descend.ensures.members ∙ ap (entered size) c.as_slice-4.ensures.value in
+    let members : c.descend.new.members.items ≡ entered ways size kept = c.descend.ensures.members ∙ ap₂ (λ (w : List Way) l. entered w size l) c.as_slice-3.ensures.value c.as_slice-4.ensures.value in
     subst (λ ms. HasExchanged a.region.now (member_rows a.members.now.items) p.new.region (member_rows ms)) (sym members) (next-exchanged dp a.k a.limits.threshold a.region.now h.0 n.region a.members.now.items ways keys h.1 a.limits.width p.new.region kept p.result done left a.steps.now.items)
 
 pub returns-clause-reached : goal.returns-clause-reached
@@ -133,11 +133,11 @@ returns-clause-reached g c =
     let p = c.prune-more in
     let kept = p.new.kept.items in
     let size = length a.steps.now.items in
-    let members : c.descend.new.members.items ≡ entered size kept = c.descend.ensures.members ∙ ap (entered size) c.as_slice-4.ensures.value in
+    let members : c.descend.new.members.items ≡ entered ways size kept = c.descend.ensures.members ∙ ap₂ (λ (w : List Way) l. entered w size l) c.as_slice-3.ensures.value c.as_slice-4.ensures.value in
     let steps : c.descend.new.steps.items ≡ a.steps.now.items ++ map (step_of ways) kept = c.descend.ensures.steps ∙ ap₂ (λ (w : List Way) l. a.steps.now.items ++ map (step_of w) l) c.as_slice-3.ensures.value c.as_slice-4.ensures.value in
     let count = ap length steps ∙ length-append a.steps.now.items (map (step_of ways) kept) in
     let same = length-map kept (step_of ways) in
-    subst (Each (IsReachedWithin (length c.descend.new.steps.items))) (sym members) (entered-within size (length c.descend.new.steps.items) kept (omega arith))
+    subst (Each (IsReachedWithin (length c.descend.new.steps.items))) (sym members) (entered-within ways size (length c.descend.new.steps.items) kept (omega arith))
 
 pub returns-clause-few : goal.returns-clause-few
 returns-clause-few g c =
@@ -145,8 +145,8 @@ returns-clause-few g c =
     let p = c.prune-more in
     let kept = p.new.kept.items in
     let size = length a.steps.now.items in
-    let members : c.descend.new.members.items ≡ entered size kept = c.descend.ensures.members ∙ ap (entered size) c.as_slice-4.ensures.value in
-    let count = ap length members ∙ length-entered size kept in
+    let members : c.descend.new.members.items ≡ entered ways size kept = c.descend.ensures.members ∙ ap₂ (λ (w : List Way) l. entered w size l) c.as_slice-3.ensures.value c.as_slice-4.ensures.value in
+    let count = ap length members ∙ length-entered ways size kept in
     let most = p.ensures.pruned.most_stay in
     omega arith
 
@@ -157,9 +157,9 @@ returns-clause-steps g c =
     let p = c.prune-more in
     let kept = p.new.kept.items in
     let size = length a.steps.now.items in
-    let members : c.descend.new.members.items ≡ entered size kept = c.descend.ensures.members ∙ ap (entered size) c.as_slice-4.ensures.value in
+    let members : c.descend.new.members.items ≡ entered ways size kept = c.descend.ensures.members ∙ ap₂ (λ (w : List Way) l. entered w size l) c.as_slice-3.ensures.value c.as_slice-4.ensures.value in
     let steps : c.descend.new.steps.items ≡ a.steps.now.items ++ map (step_of ways) kept = c.descend.ensures.steps ∙ ap₂ (λ (w : List Way) l. a.steps.now.items ++ map (step_of w) l) c.as_slice-3.ensures.value c.as_slice-4.ensures.value in
-    let count = ap length members ∙ length-entered size kept in
+    let count = ap length members ∙ length-entered ways size kept in
     let all = ap length steps ∙ length-append a.steps.now.items (map (step_of ways) kept) in
     let same = length-map kept (step_of ways) in
     omega arith

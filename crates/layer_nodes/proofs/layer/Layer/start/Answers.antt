@@ -15,7 +15,7 @@ returns-clause-node c =
       place = place;
       nodes_are = ap₂ (λ h r. map (node_view_by (held_row h) r) c.push_reserved.new.self.items) c.of.ensures c.clear.ensures.items
           ∙ (ap (map (node_view_by (held_row region) [])) (c.push_reserved.ensures.items ∙ (ap (λ l. l ++ c.lone_node.result ∷ []) c.clear-2.ensures.items ∙ ap (λ n. n ∷ []) c.lone_node.ensures))
-          ∙ (started-views a.region.now region place a.row.now _ _ put (c.requires.cells ∙ sym c.requires.words)
-          ∙ ap₂ (λ v r. record { row = a.row.now; place = place; value = v; rank = r; exact = true; parent = None; decision = 0; arcs = []; suffix = None } ∷ []) (to_z-of_z w64 a.value c.ranges.value) (to_z-of_z w64 a.rank c.ranges.rank)));
+          ∙ (started-views a.region.now region place a.row.now _ _ a.hash put (c.requires.cells ∙ sym c.requires.words)
+          ∙ ap₂ (λ v r. record { row = a.row.now; place = place; value = v; rank = r; hash = a.hash; exact = true; parent = None; decision = 0; arcs = []; suffix = None } ∷ []) (to_z-of_z w64 a.value c.ranges.value) (to_z-of_z w64 a.rank c.ranges.rank)));
       put = put;
     }
