@@ -15,11 +15,11 @@ ghost use Rattle.board.specs.Starting.{IsStart, start_best};
 
 use crate::checked_out::CheckedOut;
 use crate::entering::put_back;
-use crate::solving::{copy_decisions, solution_value};
+use crate::solving::copy_decisions;
 use crate::start::Start;
 use crate::starting::fringe_for;
 use board_laws::Settings;
-use dp_model::{DpModel, OutOfMemory, Sub};
+use dp_model::{DpModel, OutOfMemory, Sub, solution_value};
 use fringe::Fringe;
 use std::alloc::Global;
 

@@ -14,7 +14,7 @@ use crate::offsets::offset_after;
 use crate::restarting::restarted;
 use crate::state::{Best, State};
 use crate::verdict::Verdict;
-use crate::walking::{Rows, solution_value};
+use crate::walking::{Rows, value_in};
 use dp_model::{DpModel, OutOfMemory};
 use journal_bytes::{Child, Record};
 use journal_file::JournalError;
@@ -43,7 +43,7 @@ fn improve<M: DpModel>(
     ensures gives { IfOk result (FollowGives (M.meaning (M.numbers model.now)) state.old (Improve value decisions.now) state.new) }
     ensures cells { AreCells (M.meaning (M.numbers model.now)) (vec_len rows.new.row) (vec_len rows.new.spare) }
 {
-    let Some(worth) = solution_value(model, decisions, rows) else {
+    let Some(worth) = value_in(model, decisions, rows) else {
         return Ok(Verdict::NoSolution);
     };
     if worth == value && is_better(&state.best, value) {

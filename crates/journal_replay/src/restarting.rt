@@ -6,7 +6,7 @@ ghost use Rattle.journal_replay.specs.Places.{AreCells, BestGives, ListedGives, 
 
 use crate::state::{Best, Place, State};
 use crate::verdict::Verdict;
-use crate::walking::{Rows, prefix_sub, solution_value};
+use crate::walking::{Rows, prefix_sub, value_in};
 use dp_model::{DpModel, OutOfMemory};
 use journal_bytes::{Incumbent, Listed};
 use std::alloc::Global;
@@ -26,7 +26,7 @@ fn best_of<M: DpModel>(
         return Ok(Ok(None));
     };
     let decisions = incumbent.decisions.as_slice();
-    let Some(value) = solution_value(model, decisions, rows) else {
+    let Some(value) = value_in(model, decisions, rows) else {
         return Ok(Err(Verdict::NoSolution));
     };
     if value != incumbent.value {

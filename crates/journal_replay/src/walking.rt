@@ -5,7 +5,7 @@ ghost use Rattle.dp_model.specs.Solution.{SolutionGives};
 ghost use Rattle.dp_model.specs.Walked.{WalkGives};
 ghost use Rattle.journal_replay.specs.Places.{is_far, AreCells, PrefixGives};
 
-use dp_model::{DpModel, OutOfMemory, Sub, walk};
+use dp_model::{DpModel, OutOfMemory, Sub, solution_value, walk};
 use std::alloc::Global;
 
 /// The greatest size of a bound: 2^62.
@@ -46,15 +46,17 @@ fn walk_into<M: DpModel>(
 }
 
 /// The value of a feasible solution, or `None` exactly where the decisions are none.
-pub fn solution_value<M: DpModel>(model: &M, decisions: &[u32], rows: &mut Rows) -> Option<i64>
+pub fn value_in<M: DpModel>(model: &M, decisions: &[u32], rows: &mut Rows) -> Option<i64>
     requires cells { AreCells (M.meaning (M.numbers model.now)) (vec_len rows.old.row) (vec_len rows.old.spare) }
     ensures gives { SolutionGives (M.meaning (M.numbers model.now)) decisions.now result }
     ensures cells { AreCells (M.meaning (M.numbers model.now)) (vec_len rows.new.row) (vec_len rows.new.spare) }
 {
-    if decisions.len() != model.vars() {
-        return None;
-    }
-    walk_into(model, decisions, &mut rows.row, rows.spare.as_mut_slice())
+    solution_value(
+        model,
+        decisions,
+        rows.row.as_mut_slice(),
+        rows.spare.as_mut_slice(),
+    )
 }
 
 /// Whether the size of a bound is at most 2^62.

@@ -161,7 +161,8 @@ impl Beam {
         let place = put_row(region, row);
         self.steps.clear();
         self.members.clear();
-        self.members.push_reserved(first_member(value, rank, hash, place));
+        self.members
+            .push_reserved(first_member(value, rank, hash, place));
     }
 
     /// The value of the first member, whose decisions are written, or none where there is no member.

@@ -2,13 +2,12 @@
 
 ghost use Rattle.std.specs.Prelude.{◌≡◌, true, length, map, option_map, IfOk, IsTrue};
 ghost use Rattle.std.specs.Str.{bytes_eq};
-ghost use Rattle.dp_model.specs.Solution.{SolutionGives};
 ghost use Rattle.journal_bytes.specs.Views.{incumbent_view};
 ghost use Rattle.part_reports.specs.Reports.{report_view, is_of_part, TestGives, FaultGives, FaultsGive, UntestedGives};
 
 use crate::fault::ReportFault;
 use crate::report::PartReport;
-use dp_model::{DpModel, OutOfMemory, walk};
+use dp_model::{DpModel, OutOfMemory, solution_value};
 use journal_bytes::Incumbent;
 use std::alloc::Global;
 
@@ -24,23 +23,6 @@ fn are_same(one: &[u8], other: &[u8]) -> bool
     ensures { result ≡ bytes_eq one.now other.now }
 {
     one == other
-}
-
-/// The value of the decisions, or `None` exactly where they are no feasible solution. The rows are written over.
-fn solution_value<M: DpModel>(
-    model: &M,
-    decisions: &[u32],
-    row: &mut [i64],
-    spare: &mut [i64],
-) -> Option<i64>
-    requires cells { length row.old ≡ (M.meaning (M.numbers model.now)).words }
-    requires spare_cells { length spare.old ≡ (M.meaning (M.numbers model.now)).words }
-    ensures { SolutionGives (M.meaning (M.numbers model.now)) decisions.now result }
-{
-    if decisions.len() != model.vars() {
-        return None;
-    }
-    walk(model, decisions, row, spare)
 }
 
 /// Whether the decisions of a solution have its value. The rows have the cells of a state, and are written over.

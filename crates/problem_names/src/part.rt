@@ -3,7 +3,8 @@
 /// How many parts a problem has at most.
 pub const MOST_PARTS: u32 = 1024;
 
-/// The part with the number `index`, from 0, of a problem in `of` parts: the solutions whose first decision has the remainder `index` by `of`.
+/// A part of a whole, by its number. Of a problem it has the solutions whose first decision leaves the remainder `index` when it is divided by `of`;
+/// of a stopped search, the open subproblems that are dealt to it.
 #[derive(Clone, Copy, Debug, PartialEq, Eq)]
 pub struct PartNumber {
     /// The number of the part, below `of`.

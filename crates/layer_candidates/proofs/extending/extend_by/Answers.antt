@@ -57,7 +57,7 @@ take_in-place-requires-clause-hash g c =
     let ways = a.table.now.ways.items in
     let mid = c.write_state.new.region in
     let row = ap (held_row mid) c.way_of-way.ensures.row ∙ w.row in
-    let zeros = λ i less. subst (HasZeros a.table.now.live) (sym (w.rows i less)) (rows-zeros dp (a.k + 1) a.table.now.live (way_row a.region.now ways) ways c.requires.zeros c.requires.joined.good i less) in
+    let zeros : (i : ℕ) → i < length ways → HasZeros a.table.now.live (way_row mid ways i) = λ i less. subst (HasZeros a.table.now.live) (sym (w.rows i less)) (rows-zeros dp (a.k + 1) a.table.now.live (way_row a.region.now ways) ways c.requires.zeros c.requires.joined.good i less) in
     have-fold dp (a.k + 1) a.table.now.live (way_row mid ways) ways a.table.now.folds.items (held_row mid c.way_of-way.result.row) c.way_of-way.result.hash
     (hashed-same (way_row a.region.now ways) (way_row mid ways) ways w.rows dp (a.k + 1) a.table.now.folds.items c.requires.joined.hashed) zeros
     (subst (HasZeros a.table.now.live) (sym row) (c.requires.zeros (dp.step a.k a.parent.state.now a.decision) w.state))

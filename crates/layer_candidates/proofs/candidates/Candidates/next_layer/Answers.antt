@@ -142,6 +142,7 @@ returns-clause-reached g c =
 pub returns-clause-few : goal.returns-clause-few
 returns-clause-few g c =
     let a = c.args in
+    let ways = c.list_next.new.self.table.ways.items in
     let p = c.prune-more in
     let kept = p.new.kept.items in
     let size = length a.steps.now.items in
