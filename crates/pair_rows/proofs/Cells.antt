@@ -1,15 +1,15 @@
 -- One entry of a row, and the rows from an entry on.
-use Rattle.std.proofs.Common.{◌≡◌, ℕ, zero, suc, ◌+◌, ◌^◌, ◌<◌, ◌≤◌, ℤ, pos, ◌+ℤ◌, ◌-ℤ◌, ◌≤ℤ◌, List, ◌∷◌, length, drop, get_or, refl, arith, ap, ◌∙◌, FitsSigned, to_z, of_z, w64}
+use Rattle.std.proofs.Common.{◌≡◌, ℕ, zero, suc, ◌+◌, ◌^◌, ◌<◌, ◌≤◌, ℤ, pos, ◌+ℤ◌, ◌-ℤ◌, ◌≤ℤ◌, List, length, drop, get_or, arith, ap, to_z, of_z, w64}
 use Rattle.std.specs.Prelude.{IsTrue}
 use Rattle.std.specs.Int.{int_min}
 use Rattle.std.proofs.lemmas.Int.{ints, clamps}
 use Rattle.std.proofs.lemmas.List.{drop_more, drop_all}
 use Rattle.benefit_rows.specs.Benefits.{size_of, rank_of}
 use Rattle.benefit_rows.specs.BenefitLaws.{rank_of-positive}
-use Rattle.benefit_rows.proofs.Steps.{size_of-at, read_by_size}
+use Rattle.benefit_rows.proofs.Steps.{read_by_size}
 use Rattle.pair_rows.specs.declared.values.PairValues.{PairValues}
 use Rattle.pair_rows.specs.declared.values.UnitValues.{UnitValues}
-use Rattle.pair_rows.specs.Instance.{pair_most, pairs_most, unit_most, units_most, no_pair, no_unit}
+use Rattle.pair_rows.specs.Instance.{pair_most, pairs_most, unit_most, units_most, no_unit}
 use Rattle.pair_rows.specs.Limits.{PairFits, pair_fits, pairs_fit, UnitFits, unit_fits, units_fit}
 use Rattle.pair_rows.specs.Laws.Limits.{pair-fits, unit-fits}
 use Rattle.pair_rows.specs.Program.{given_yes, given_no, lesser_units}

@@ -1,9 +1,9 @@
 -- Hashes: polynomials of rows, cell by cell and after a step.
-use Rattle.std.proofs.Common.{◌≡◌, ℕ, zero, suc, ◌+◌, ◌-◌, ◌<◌, ◌≤◌, ℤ, pos, ◌+ℤ◌, ◌-ℤ◌, neg_ℤ, FitsSigned, to_z, of_z, w64, List, [], ◌∷◌, ◌++◌, length, take, drop, map, replicate, get_or, refl, arith, ap, sym, subst, ◌∙◌, append_assoc}
+use Rattle.std.proofs.Common.{◌≡◌, ℕ, zero, suc, ◌+◌, ◌-◌, ◌*◌, ◌%◌, ◌^◌, ◌<◌, ◌≤◌, ℤ, pos, ◌+ℤ◌, ◌-ℤ◌, neg_ℤ, FitsSigned, to_z, of_z, w64, List, [], ◌∷◌, ◌++◌, length, take, drop, map, replicate, get_or, mod-lt, refl, arith, ap, ap₂, sym, subst, ◌∙◌, append_assoc}
 use Rattle.std.specs.Int.{int_wrap}
 use Rattle.std.specs.Prelude.{◌*ℤ◌}
 use Rattle.std.proofs.Math.Seq.{drop-append_seam}
-use Rattle.std.proofs.lemmas.Int.{ints, to_z-of_z, int_wrap-add_left, int_wrap-add_right, int_wrap-mul_left, int_wrap-mul_right, int_wrap_fits, SFits-int_wrap}
+use Rattle.std.proofs.lemmas.Int.{ints, to_z-of_z, int_wrap-add_left, int_wrap-add_right, int_wrap-mul_left, int_wrap-mul_right, wrapping_add_onto, wrapping_mul_onto, wrapping_sub_is, wrapping_mul_is, SFits-int_wrap}
 use Rattle.std.proofs.lemmas.List.{drop_more, drop_all, append-nil, length-map, length-replicate}
 use Rattle.benefit_rows.specs.Benefits.{sums_of}
 use Rattle.pair_rows.specs.declared.values.PairValues.{PairValues}
@@ -20,6 +20,16 @@ use Rattle.pair_rows.proofs.Writing.{step-shifts}
 -- a product and a sum on the way may wrap
 pub wrapped-cell : (others cell : ℤ) → int_wrap w64 (int_wrap w64 (int_wrap w64 others *ℤ base) +ℤ cell) ≡ int_wrap w64 ((others *ℤ base) +ℤ cell)
 wrapped-cell others cell = ap (λ z. int_wrap w64 (z +ℤ cell)) (int_wrap-mul_left w64 others base) ∙ int_wrap-add_left w64 (others *ℤ base) cell
+
+base-fits : FitsSigned w64 base
+base-fits = record { sfits = omega arith }
+
+-- the same, as words of 64 bits are computed
+pub cell-wraps : (others rest cell : ℤ) → FitsSigned w64 rest → FitsSigned w64 cell → rest ≡ int_wrap w64 others
+    → to_z w64 (((of_z w64 rest * of_z w64 base) % 2 ^ 64 + of_z w64 cell) % 2 ^ 64) ≡ int_wrap w64 ((others *ℤ base) +ℤ cell)
+cell-wraps others rest cell rest_fits cell_fits is =
+    wrapping_add_onto w64 ((of_z w64 rest * of_z w64 base) % 2 ^ 64) cell (mod-lt (of_z w64 rest * of_z w64 base) (omega arith)) cell_fits
+    ∙ (ap (λ z. int_wrap w64 (z +ℤ cell)) (wrapping_mul_is w64 rest base rest_fits base-fits ∙ ap (λ z. int_wrap w64 (z *ℤ base)) is) ∙ wrapped-cell others cell)
 
 turned : int_wrap w64 (base *ℤ inverse) ≡ pos 1
 unfolding int_wrap
@@ -54,6 +64,26 @@ wrapped-next others first more =
     ∙ (ap (λ z. int_wrap w64 (z +ℤ int_wrap w64 more)) (wrapped-back others)
     ∙ (int_wrap-add_left w64 others (int_wrap w64 more) ∙ int_wrap-add_right w64 others more))
 
+inverse-fits : FitsSigned w64 inverse
+inverse-fits = record { sfits = omega arith }
+
+-- the hash as a signed word
+pub signed-whole : (z : ℤ) (hash : ℕ) (signed : ℤ) → signed ≡ to_z w64 hash → hash ≡ of_z w64 (int_wrap w64 z) → signed ≡ int_wrap w64 z
+signed-whole z hash signed is hash_is = is ∙ (ap (to_z w64) hash_is ∙ to_z-of_z w64 (int_wrap w64 z) (SFits-int_wrap w64 z))
+
+-- the same, as words of 64 bits are computed
+pub next-wraps : (others first more change signed : ℤ) → FitsSigned w64 signed → FitsSigned w64 first → FitsSigned w64 change → signed ≡ int_wrap w64 ((others *ℤ base) +ℤ first) → change ≡ int_wrap w64 more
+    → to_z w64 (((((of_z w64 signed + (2 ^ 64 - of_z w64 first)) % 2 ^ 64) * of_z w64 inverse) % 2 ^ 64 + of_z w64 change) % 2 ^ 64) ≡ int_wrap w64 (others +ℤ more)
+next-wraps others first more change signed signed_fits first_fits change_fits signed_is change_is =
+    let whole : ℤ = (others *ℤ base) +ℤ first in
+    let one : ℕ = (of_z w64 signed + (2 ^ 64 - of_z w64 first)) % 2 ^ 64 in
+    let two : ℕ = (one * of_z w64 inverse) % 2 ^ 64 in
+    let less : to_z w64 one ≡ int_wrap w64 (int_wrap w64 whole -ℤ first) = wrapping_sub_is w64 signed first signed_fits first_fits ∙ ap (λ z. int_wrap w64 (z -ℤ first)) signed_is in
+    let back : to_z w64 two ≡ int_wrap w64 (int_wrap w64 (int_wrap w64 whole -ℤ first) *ℤ inverse) =
+    wrapping_mul_onto w64 one inverse (mod-lt (of_z w64 signed + (2 ^ 64 - of_z w64 first)) (omega arith)) inverse-fits ∙ ap (λ z. int_wrap w64 (z *ℤ inverse)) less in
+    wrapping_add_onto w64 two change (mod-lt (one * of_z w64 inverse) (omega arith)) change_fits
+    ∙ (ap₂ (λ y z. int_wrap w64 (y +ℤ z)) back change_is ∙ wrapped-next others first more)
+
 -- as a word of 64 bits is read
 pub wrapped-read : (z y : ℤ) → z ≡ int_wrap w64 y → to_z w64 (of_z w64 z) ≡ z
 wrapped-read z y is = to_z-of_z w64 z (subst (FitsSigned w64) (sym is) (SFits-int_wrap w64 y))
@@ -62,6 +92,11 @@ wrapped-read z y is = to_z-of_z w64 z (subst (FitsSigned w64) (sym is) (SFits-in
 
 pub polynomial-more : (row : List ℤ) (i : ℕ) → i < length row → polynomial (drop i row) ≡ (polynomial (drop (i + 1) row) *ℤ base) +ℤ get_or row i (pos 0)
 polynomial-more row i h = ap polynomial (drop_more row i (pos 0) h)
+
+pub polynomial-before : (row : List ℤ) (i : ℕ) → 0 < i → i ≤ length row → polynomial (drop (i - 1) row) ≡ (polynomial (drop i row) *ℤ base) +ℤ get_or row (i - 1) (pos 0)
+polynomial-before row i some h =
+    let one : (i - 1) + 1 ≡ i = omega arith in
+    polynomial-more row (i - 1) (omega arith) ∙ ap (λ n. (polynomial (drop n row) *ℤ base) +ℤ get_or row (i - 1) (pos 0)) one
 
 pub polynomial-sums : (xs ys : List ℤ) → length xs ≡ length ys → polynomial (sums_of xs ys) ≡ polynomial xs +ℤ polynomial ys
 polynomial-sums [] [] e = omega (arith, ints)

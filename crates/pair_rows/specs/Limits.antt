@@ -1,5 +1,5 @@
 -- What every instance keeps to.
-use Rattle.std.specs.Prelude.{◌≡◌, ℕ, ◌^◌, ◌≤◌, ℤ, pos, neg_ℤ, ◌+ℤ◌, ◌≤ℤ◌, Bool, ◌&&◌, int_le, List, length, IsTrue}
+use Rattle.std.specs.Prelude.{◌≡◌, ◌^◌, ◌≤◌, ℤ, pos, neg_ℤ, ◌+ℤ◌, ◌≤ℤ◌, Bool, ◌&&◌, int_le, List, length, IsTrue}
 use Rattle.std.specs.List.{list_all}
 use Rattle.pair_rows.specs.declared.values.UnitValues.{UnitValues}
 use Rattle.pair_rows.specs.declared.values.PairValues.{PairValues}

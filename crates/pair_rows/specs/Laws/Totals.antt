@@ -1,7 +1,7 @@
 -- Sums of what entries give, and the limits of a state's benefits.
-use Rattle.std.specs.Prelude.{◌≡◌, ℕ, zero, suc, ◌+◌, ◌<◌, ◌≤◌, ℤ, pos, ◌+ℤ◌, ◌≤ℤ◌, Bool, int_le, List, [], ◌∷◌, length, take, drop, map, IsTrue, refl}
+use Rattle.std.specs.Prelude.{◌≡◌, ℕ, zero, suc, ◌+◌, ◌≤◌, ℤ, pos, ◌+ℤ◌, ◌≤ℤ◌, Bool, int_le, List, [], ◌∷◌, length, take, drop, map, IsTrue, refl}
 use Rattle.std.specs.List.{list_all}
-use Rattle.std.proofs.Common.{arith, get_or}
+use Rattle.std.proofs.Common.{arith}
 use Rattle.std.proofs.lemmas.Int.{ints}
 use Rattle.std.proofs.lemmas.List.{length-drop}
 use Rattle.std.proofs.lemmas.Bool.{and_parts, and_from}
@@ -15,7 +15,7 @@ use Rattle.pair_rows.specs.Instance.{Instance, unit_most, pair_most, units_most,
 use Rattle.pair_rows.specs.Limits.{IsInstance, units_fit, pairs_fit, pair_fits, unit_fits}
 use Rattle.pair_rows.specs.Laws.Limits.{size-is, unit-fits, pair-fits}
 use Rattle.pair_rows.specs.Program.{is_within, raised_limits, first_limits, limits_at, are_within, all_zero, words_of}
-use Rattle.pair_rows.specs.Laws.Pairs.{all-take, all-drop, total_by-positive, total_by-cut, total-rows_of, all-rows_of, all-row_at, length-rows_of, length-row_at, drop-rows}
+use Rattle.pair_rows.specs.Laws.Pairs.{all-take, total_by-positive, total_by-cut, total-rows_of, all-rows_of, all-row_at, length-rows_of, length-row_at, drop-rows}
 use Rattle.pair_rows.specs.Laws.Rows.{words_of-some}
 
 -- the sum of some numbers

@@ -1,4 +1,4 @@
-use Rattle.std.proofs.Common.{◌<◌, arith, w64, ap, ◌∙◌}
+use Rattle.std.proofs.Common.{arith, w64, ap, ◌∙◌}
 use Rattle.std.proofs.lemmas.Int.{to_z-of_z}
 use Rattle.pair_rows.specs.Laws.Pairs.{length-rows_of}
 use Rattle.pair_rows.specs.Pairs.{rows_of}
