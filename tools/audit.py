@@ -32,7 +32,7 @@ PAGE = f"{TOP}/docs/READING.md"
 HEAD = """# What a sceptic reads, in order
 
 A proof need not be read: the kit checks it. What has to be read is what the proofs are about. This page lists it for the clause of `run`
-(`solver_cli/src/run.rt`), which says what a run of the program does. It begins with the top theorem, and each room stands on those after it.
+(`commands/src/running.rt`), which says what a run of the program does. It begins with the top theorem, and each room stands on those after it.
 Of a file only the named number of definitions belongs to the clause. `tools/audit.py CRATE/FILE NAME` lists the definitions under one.
 
 This page is made by `tools/audit.py --write` from crates.txt and specs/. Lines are counted without comments, blank lines and imports.

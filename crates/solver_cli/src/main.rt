@@ -1,40 +1,16 @@
-//! The program: it does what the command's words ask for with its input, and writes the answer.
+//! The program: `main` and the edge to the outside.
 //!
-//! `run` is the top call, over any source, sink and disk. `main` calls it with standard input, standard output and a file. The contract
-//! of `run` says how a run ends. The answer is right for the words and the bytes that were read. Its text was written whole, and the
-//! status is its own; or a part was written because the sink failed or took nothing, and the status is 7. If a journal is kept, the
-//! contract also says what a crash at any moment of the run leaves of it.
+//! `main` calls `run` of `commands` with the command's words, standard input, standard output and a file. What a run does, and how it ends,
+//! is said there. Here the words are read, and the status becomes the exit status.
 //!
-//! It stands on `answers` for answers and their texts, and on `search_workers` for the search, which it starts. A width is refused
-//! exactly if it is 0 or above the greatest width of the instance. If a cover is asked for, each worker has a book of `cover_pages`, and the
-//! cover is made from the books.
-//!
-//! ```
-//! // The words leave out the program's name. Here they are `solve` and `knapsack`, and nothing touches the disk.
-//! let ended = run(&rt, rt.alloc(), words, &mut input, &mut out, FileDisk::detached(&rt), &NoGate);
-//! let status = ended.status;
+//! ```text
+//! solver_cli solve knapsack < INSTANCE
 //! ```
 #![tactic(auto)]
 
-mod answering;
-mod books;
-mod drawing;
-mod ending;
-mod keeping;
-mod limits;
-mod offering;
-mod resuming;
-mod run;
-mod runner;
-mod searching;
-mod solving;
-mod starting;
-#[cfg(test)]
-mod tests;
-
 use answers::say;
+use commands::run;
 use disk::FileDisk;
-pub use run::{Ended, run};
 use search_workers::NoGate;
 use solver_report::Answer;
 use std::alloc::AllocError;

@@ -1,5 +1,0 @@
-use Rattle.std.proofs.Common.{rules, tests}
-use Rattle.solver_cli.proofs.answering.digest_input.Goals as goal
-
-pub returns-in-Ok-6 : goal.returns-in-Ok-6
-returns-in-Ok-6 g c = search (tests, rules)
