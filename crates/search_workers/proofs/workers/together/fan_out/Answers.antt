@@ -67,4 +67,4 @@ returns-clause-ended g c =
     all_right Q (HasEndedAt t) (λ a b h. h) c.args.seats.now c.side_by_side.new.seats pairs
 
 pub side_by_side-requires-send-K : goal.side_by_side-requires-send-K
-side_by_side-requires-send-K g c κs within = search (sendable, crosses, book_send) depth 40 fits 4000
+side_by_side-requires-send-K g c κs within = search (sendable, crosses, book_send) depth 60 fits 8000
