@@ -83,11 +83,11 @@ each-like P move [] (b ∷ ys) h all = absurd h
 each-like P move (a ∷ xs) [] h all = absurd h
 each-like P move (a ∷ xs) (b ∷ ys) h all = (move a b h.0 all.0, each-like P move xs ys h.1 all.1)
 
-map-like : (f : DdNode → ℤ) → ((a b : DdNode) → plain a ≡ plain b → f a ≡ f b) → (xs ys : List DdNode) → AreLike xs ys → map f xs ≡ map f ys
+map-like : (f : DdNode → Told) → ((a b : DdNode) → plain a ≡ plain b → f a ≡ f b) → (xs ys : List DdNode) → AreLike xs ys → map f xs ≡ map f ys
 map-like f same [] [] h = refl
 map-like f same [] (b ∷ ys) h = absurd h
 map-like f same (a ∷ xs) [] h = absurd h
-map-like f same (a ∷ xs) (b ∷ ys) h = ap₂ (λ (x : ℤ) (l : List ℤ). x ∷ l) (same a b h.0) (map-like f same xs ys h.1)
+map-like f same (a ∷ xs) (b ∷ ys) h = ap₂ (λ (x : Told) (l : List Told). x ∷ l) (same a b h.0) (map-like f same xs ys h.1)
 
 reaches-like : (r : ℤ) (xs ys : List DdNode) (i : ℕ) → AreLike xs ys → ReachesWithin r (slice_get xs i) → ReachesWithin r (slice_get ys i)
 reaches-like r [] [] i h w = w

@@ -134,14 +134,13 @@ impl Workspace {
     {
         let first = sub.decisions.len();
         let rank = model.rank(first, sub.row.as_slice());
+        let hash = model.hash(first, sub.row.as_slice());
         write_all(&mut self.prefix, sub.decisions.as_slice());
         let stack = &mut self.stack;
         stack.first = first;
         stack.last = first;
         stack.region.clear();
-        stack
-            .newest
-            .start(&mut stack.region, sub.row.as_slice(), sub.value, rank, model.hash(first, sub.row.as_slice()));
+        stack.newest.start(&mut stack.region, sub.row.as_slice(), sub.value, rank, hash);
         self.first_reduced = None;
         self.held = first;
     }

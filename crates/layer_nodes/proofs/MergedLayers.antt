@@ -4,7 +4,7 @@ use Rattle.std.proofs.lemmas.List.{map-append, take-map, drop-map, length-take-l
 use Rattle.dp_model.specs.Dp.{Dp}
 use Rattle.dp_model.specs.Gaps.{IsStateOf}
 use Rattle.dp_model.specs.Lists.{Each}
-use Rattle.dp_model.proofs.Members.{Each-append, Each-map, Each-then}
+use Rattle.dp_model.proofs.Members.{Each-append, Each-then}
 use Rattle.dp_laws.proofs.Lists.{each-take}
 use Rattle.dp_laws.specs.declared.arc.DdArc.{DdArc}
 use Rattle.dp_laws.specs.Diagrams.Nodes.{DdNode}
@@ -15,7 +15,7 @@ use Rattle.layer_candidates.proofs.HeldRows.{held-is}
 use Rattle.row_region.specs.Region.{RegionView, IsRow}
 use Rattle.layer_nodes.specs.declared.node.Node.{Node}
 use Rattle.layer_nodes.specs.Holding.{AreHeld, HaveRows}
-use Rattle.layer_nodes.specs.Leading.{IsNodeBy, bare}
+use Rattle.layer_nodes.specs.Leading.{bare}
 use Rattle.layer_nodes.specs.Merging.{merged_at, HasMerged}
 use Rattle.layer_nodes.specs.Nodes.{NodeView, shown_below}
 use Rattle.layer_nodes.specs.Steps.{IsNodeOf, IsRanked}

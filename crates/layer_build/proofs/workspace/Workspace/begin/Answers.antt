@@ -9,7 +9,7 @@ use Rattle.dp_model.proofs.Paths.{state_of-state, IsPrefix-length}
 use Rattle.dp_laws.specs.Diagrams.Nodes.{DdNode}
 use Rattle.dp_laws.specs.Rules.Compiling.{start_layer}
 use Rattle.layer_nodes.specs.Holding.{HasStarted}
-use Rattle.layer_nodes.specs.Nodes.{Told, told_by, told_of, NodeView}
+use Rattle.layer_nodes.specs.Nodes.{Told, told_by, told_of}
 use Rattle.row_region.specs.Region.{RegionView}
 use Rattle.layer_build.specs.Layers.{SpaceView}
 use Rattle.layer_build.specs.Stacked.{HasSpace, shown_stack}
@@ -36,8 +36,8 @@ rank-rank-requires g c =
     let row : c.as_slice.result.now ≡ state_of dp p = c.as_slice.ensures.value ∙ (ap (λ (s : SubView). s.subproblem.row) c.sub.view_is ∙ c.requires.row) in
     subst (λ (k : ℕ). IsStateOf dp k c.as_slice.result.now) (sym first) (subst (IsStateOf dp (length p)) (sym row) (state_of-state dp laws.states p c.requires.prefix))
 
-pub hash-requires : goal.hash-requires
-hash-requires g c =
+pub hash-hash-requires : goal.hash-hash-requires
+hash-hash-requires g c =
     let dp = g.M.DpModel.meaning (g.M.DpModel.numbers c.args.model.now) in
     let p = c.args.sub.now.subproblem.decisions in
     let low = IsPrefix-length dp p c.requires.prefix in
@@ -45,8 +45,8 @@ hash-requires g c =
     let size : c.len-first.result ≡ length c.sub.inside.decisions.items = search rules in
     let first : c.len-first.result ≡ length p = size ∙ ap (λ (l : List ℕ). length l) decisions in
     let laws = laws_of g c.args.model.now in
-    let row : c.as_slice-4.result.now ≡ state_of dp p = c.as_slice-4.ensures.value ∙ (ap (λ (s : SubView). s.subproblem.row) c.sub.view_is ∙ c.requires.row) in
-    subst (λ (k : ℕ). IsStateOf dp k c.as_slice-4.result.now) (sym first) (subst (IsStateOf dp (length p)) (sym row) (state_of-state dp laws.states p c.requires.prefix))
+    let row : c.as_slice-2.result.now ≡ state_of dp p = c.as_slice-2.ensures.value ∙ (ap (λ (s : SubView). s.subproblem.row) c.sub.view_is ∙ c.requires.row) in
+    subst (λ (k : ℕ). IsStateOf dp k c.as_slice-2.result.now) (sym first) (subst (IsStateOf dp (length p)) (sym row) (state_of-state dp laws.states p c.requires.prefix))
 
 pub write_all-requires : goal.write_all-requires
 write_all-requires g c =
@@ -58,7 +58,7 @@ write_all-requires g c =
     let first : c.len-first.result ≡ length p = size ∙ ap (λ (l : List ℕ). length l) decisions in
     let i = c.self.inside in let h = c.self.invariant in
     let vars : i.stack.vars ≡ dp.vars = ap (λ (s : SpaceView). s.vars) c.self.view_is ∙ c.requires.prepared.vars in
-    let same = ap (λ (l : List ℕ). length l) c.as_slice-2.ensures.value in
+    let same = ap (λ (l : List ℕ). length l) c.as_slice-3.ensures.value in
     let long = ap (λ (l : List ℕ). length l) decisions in
     let fits = h.prefix_fits in
     omega arith
@@ -80,7 +80,7 @@ start-requires-clause-cells g c =
     let i = c.self.inside in let h = c.self.invariant in
     let vars : i.stack.vars ≡ dp.vars = ap (λ (s : SpaceView). s.vars) c.self.view_is ∙ c.requires.prepared.vars in
     let laws = laws_of g c.args.model.now in
-    let row : c.as_slice-3.result.now ≡ state_of dp p = c.as_slice-3.ensures.value ∙ (ap (λ (s : SubView). s.subproblem.row) c.sub.view_is ∙ c.requires.row) in
+    let row : c.as_slice-4.result.now ≡ state_of dp p = c.as_slice-4.ensures.value ∙ (ap (λ (s : SubView). s.subproblem.row) c.sub.view_is ∙ c.requires.row) in
     ap (λ (l : List ℤ). length l) row ∙ (laws.sizes.cells (length p) (state_of dp p) (state_of-state dp laws.states p c.requires.prefix)
     ∙ (sym (ap (λ (s : SpaceView). s.words) c.self.view_is ∙ c.requires.prepared.words) ∙ sym h.stack.newest_words))
 
@@ -103,20 +103,20 @@ invariant_of-self g c =
     let i = c.self.inside in let h = c.self.invariant in
     let vars : i.stack.vars ≡ dp.vars = ap (λ (s : SpaceView). s.vars) c.self.view_is ∙ c.requires.prepared.vars in
     let n = c.start.new.self in
-    let row : c.as_slice-3.result.now ≡ state_of dp p = c.as_slice-3.ensures.value ∙ (ap (λ (s : SubView). s.subproblem.row) c.sub.view_is ∙ c.requires.row) in
+    let row : c.as_slice-4.result.now ≡ state_of dp p = c.as_slice-4.ensures.value ∙ (ap (λ (s : SubView). s.subproblem.row) c.sub.view_is ∙ c.requires.row) in
     let fits-value : FitsSigned w64 c.sub.inside.value = search rules in
     let value : to_z w64 (of_z w64 c.sub.inside.value) ≡ value_of dp p = to_z-of_z w64 c.sub.inside.value fits-value ∙ (ap (λ (s : SubView). s.subproblem.value) c.sub.view_is ∙ c.requires.value) in
-    let written : c.write_all.new.to.items ≡ p = c.write_all.ensures.items ∙ (c.as_slice-2.ensures.value ∙ decisions) in
-    let seen = started-layers dp i p c.len-first.result n c.start.new.region c.as_slice-3.result.now (to_z w64 (of_z w64 c.sub.inside.value)) (to_z w64 (of_z w64 c.rank-rank.result)) c.hash.result _ c.start.ensures.node row value in
+    let written : c.write_all.new.to.items ≡ p = c.write_all.ensures.items ∙ (c.as_slice-3.ensures.value ∙ decisions) in
+    let seen = started-layers dp i p c.len-first.result n c.start.new.region c.as_slice-4.result.now (to_z w64 (of_z w64 c.sub.inside.value)) (to_z w64 (of_z w64 c.rank-rank.result)) c.hash-hash.result _ c.start.ensures.node row value in
     let room = c.write_all.ensures.room in
     let laws = laws_of g c.args.model.now in
-    let long : length c.as_slice-3.result.now ≡ i.words = ap (λ (l : List ℤ). length l) row
+    let long : length c.as_slice-4.result.now ≡ i.words = ap (λ (l : List ℤ). length l) row
     ∙ (laws.sizes.cells (length p) (state_of dp p) (state_of-state dp laws.states p c.requires.prefix) ∙ sym (ap (λ (s : SpaceView). s.words) c.self.view_is ∙ c.requires.prepared.words)) in
     let some : 1 ≤ i.stack.newest.nodes_room = (let most = c.requires.prepared.enough.some in let same = ap (λ (s : SpaceView). s.room) c.self.view_is in omega arith) in
     let fits = h.prefix_fits in
     subst (λ (q : List ℕ). HasSpace i.words i.width c.len-first.result i.choices.items q (vec_capacity c.write_all.new.to) (started i c.len-first.result n c.start.new.region) i.expansion i.redirects i.path.items i.beam) (sym written)
     (started-space dp i h p (vec_capacity c.write_all.new.to) c.len-first.result n c.start.new.region (omega arith) first (omega arith) c.start.ensures.rooms some
-    c.as_slice-3.result.now (to_z w64 (of_z w64 c.sub.inside.value)) (to_z w64 (of_z w64 c.rank-rank.result)) c.hash.result long (subst (λ (before : RegionView). HasStarted c.as_slice-3.result.now (to_z w64 (of_z w64 c.sub.inside.value)) (to_z w64 (of_z w64 c.rank-rank.result)) c.hash.result before c.start.new.region n.nodes) c.clear.ensures c.start.ensures.node) seen)
+    c.as_slice-4.result.now (to_z w64 (of_z w64 c.sub.inside.value)) (to_z w64 (of_z w64 c.rank-rank.result)) c.hash-hash.result long (subst (λ (before : RegionView). HasStarted c.as_slice-4.result.now (to_z w64 (of_z w64 c.sub.inside.value)) (to_z w64 (of_z w64 c.rank-rank.result)) c.hash-hash.result before c.start.new.region n.nodes) c.clear.ensures c.start.ensures.node) seen)
 
 pub returns-clause-layers : goal.returns-clause-layers
 returns-clause-layers g c =
@@ -129,11 +129,11 @@ returns-clause-layers g c =
     let i = c.self.inside in let h = c.self.invariant in
     let vars : i.stack.vars ≡ dp.vars = ap (λ (s : SpaceView). s.vars) c.self.view_is ∙ c.requires.prepared.vars in
     let n = c.start.new.self in
-    let row : c.as_slice-3.result.now ≡ state_of dp p = c.as_slice-3.ensures.value ∙ (ap (λ (s : SubView). s.subproblem.row) c.sub.view_is ∙ c.requires.row) in
+    let row : c.as_slice-4.result.now ≡ state_of dp p = c.as_slice-4.ensures.value ∙ (ap (λ (s : SubView). s.subproblem.row) c.sub.view_is ∙ c.requires.row) in
     let fits-value : FitsSigned w64 c.sub.inside.value = search rules in
     let value : to_z w64 (of_z w64 c.sub.inside.value) ≡ value_of dp p = to_z-of_z w64 c.sub.inside.value fits-value ∙ (ap (λ (s : SubView). s.subproblem.value) c.sub.view_is ∙ c.requires.value) in
-    let written : c.write_all.new.to.items ≡ p = c.write_all.ensures.items ∙ (c.as_slice-2.ensures.value ∙ decisions) in
-    let seen = started-layers dp i p c.len-first.result n c.start.new.region c.as_slice-3.result.now (to_z w64 (of_z w64 c.sub.inside.value)) (to_z w64 (of_z w64 c.rank-rank.result)) c.hash.result _ c.start.ensures.node row value in
+    let written : c.write_all.new.to.items ≡ p = c.write_all.ensures.items ∙ (c.as_slice-3.ensures.value ∙ decisions) in
+    let seen = started-layers dp i p c.len-first.result n c.start.new.region c.as_slice-4.result.now (to_z w64 (of_z w64 c.sub.inside.value)) (to_z w64 (of_z w64 c.rank-rank.result)) c.hash-hash.result _ c.start.ensures.node row value in
     let here : the_view (record i { prefix = c.write_all.new.to; stack = started i c.len-first.result n c.start.new.region; first_reduced = None; held = c.len-first.result })
     ≡ record c.args.self.now { prefix = p; layers = start_layer (reached dp p) ∷ []; ranks = map told_by n.nodes; first_reduced = None; held = length p } =
     ap (λ (q : List ℕ). record (the_view i) { room = n.nodes_room; prefix = q; layers = shown_stack q (started i c.len-first.result n c.start.new.region); ranks = map told_by n.nodes; first_reduced = None; held = c.len-first.result }) written
@@ -153,11 +153,11 @@ returns-clause-under_way g c =
     let i = c.self.inside in let h = c.self.invariant in
     let vars : i.stack.vars ≡ dp.vars = ap (λ (s : SpaceView). s.vars) c.self.view_is ∙ c.requires.prepared.vars in
     let n = c.start.new.self in
-    let row : c.as_slice-3.result.now ≡ state_of dp p = c.as_slice-3.ensures.value ∙ (ap (λ (s : SubView). s.subproblem.row) c.sub.view_is ∙ c.requires.row) in
+    let row : c.as_slice-4.result.now ≡ state_of dp p = c.as_slice-4.ensures.value ∙ (ap (λ (s : SubView). s.subproblem.row) c.sub.view_is ∙ c.requires.row) in
     let fits-value : FitsSigned w64 c.sub.inside.value = search rules in
     let value : to_z w64 (of_z w64 c.sub.inside.value) ≡ value_of dp p = to_z-of_z w64 c.sub.inside.value fits-value ∙ (ap (λ (s : SubView). s.subproblem.value) c.sub.view_is ∙ c.requires.value) in
-    let written : c.write_all.new.to.items ≡ p = c.write_all.ensures.items ∙ (c.as_slice-2.ensures.value ∙ decisions) in
-    let seen = started-layers dp i p c.len-first.result n c.start.new.region c.as_slice-3.result.now (to_z w64 (of_z w64 c.sub.inside.value)) (to_z w64 (of_z w64 c.rank-rank.result)) c.hash.result _ c.start.ensures.node row value in
+    let written : c.write_all.new.to.items ≡ p = c.write_all.ensures.items ∙ (c.as_slice-3.ensures.value ∙ decisions) in
+    let seen = started-layers dp i p c.len-first.result n c.start.new.region c.as_slice-4.result.now (to_z w64 (of_z w64 c.sub.inside.value)) (to_z w64 (of_z w64 c.rank-rank.result)) c.hash-hash.result _ c.start.ensures.node row value in
     let here : the_view (record i { prefix = c.write_all.new.to; stack = started i c.len-first.result n c.start.new.region; first_reduced = None; held = c.len-first.result })
     ≡ record c.args.self.now { prefix = p; layers = start_layer (reached dp p) ∷ []; ranks = map told_by n.nodes; first_reduced = None; held = length p } =
     ap (λ (q : List ℕ). record (the_view i) { room = n.nodes_room; prefix = q; layers = shown_stack q (started i c.len-first.result n c.start.new.region); ranks = map told_by n.nodes; first_reduced = None; held = c.len-first.result }) written
@@ -168,7 +168,7 @@ returns-clause-under_way g c =
     let rank : c.rank-rank.result ≡ dp.rank (length p) (state_of dp p) = c.rank-rank.ensures ∙ (ap (λ (k : ℕ). dp.rank k c.as_slice.result.now) first
     ∙ ap (dp.rank (length p)) (c.as_slice.ensures.value ∙ (ap (λ (s : SubView). s.subproblem.row) c.sub.view_is ∙ c.requires.row))) in
     let fits-rank : FitsSigned w64 c.rank-rank.result = search rules in
-    let hash : c.hash.result ≡ dp.hash (length p) (state_of dp p) = c.hash.ensures ∙ (ap (λ (k : ℕ). dp.hash k c.as_slice-4.result.now) first
-    ∙ ap (dp.hash (length p)) (c.as_slice-4.ensures.value ∙ (ap (λ (s : SubView). s.subproblem.row) c.sub.view_is ∙ c.requires.row))) in
+    let hash : c.hash-hash.result ≡ dp.hash (length p) (state_of dp p) = c.hash-hash.ensures ∙ (ap (λ (k : ℕ). dp.hash k c.as_slice-2.result.now) first
+    ∙ ap (dp.hash (length p)) (c.as_slice-2.ensures.value ∙ (ap (λ (s : SubView). s.subproblem.row) c.sub.view_is ∙ c.requires.row))) in
     let ranks : map told_by n.nodes ≡ told_of dp (length p) (state_of dp p) ∷ [] = ap (map told_by) c.start.ensures.node.nodes_are ∙ ap₂ (λ (r : ℤ) (h : ℕ). (let t : Told = record { rank = r; hash = h } in t) ∷ []) (to_z-of_z w64 c.rank-rank.result fits-rank ∙ rank) hash in
     subst (IsUnderWay dp) (sym here) (start-under-way dp laws c.args.self.now p (map told_by n.nodes) (length p) c.requires.prepared c.requires.prefix ranks)

@@ -2,7 +2,7 @@ use Rattle.std.proofs.Common.{◌≡◌, ℕ, List, map, length, vec_len, None, 
 use Rattle.dp_model.specs.Lists.{Each}
 use Rattle.dp_laws.specs.Diagrams.Nodes.{DdNode}
 use Rattle.dp_laws.specs.Rules.Compiling.{prune}
-use Rattle.layer_nodes.specs.Nodes.{told_by, NodeView, LayerView}
+use Rattle.layer_nodes.specs.Nodes.{told_by, LayerView}
 use Rattle.layer_nodes.specs.Stored.{Room}
 use Rattle.layer_nodes.specs.Striking.{unstruck, drop_dominated}
 use Rattle.layer_nodes.specs.Steps.{IsRanked, MayBeLengthened}

@@ -1,7 +1,7 @@
 use Rattle.std.proofs.Common.{◌≡◌, ℕ, ◌*◌, ◌≤◌, map, length, vec_len, rules, sym, ap, ◌∙◌, subst, arith}
 use Rattle.dp_model.specs.Laws.{IsLawful}
 use Rattle.layer_nodes.specs.Sifting.{expanded_by}
-use Rattle.layer_nodes.specs.Nodes.{told_by, NodeView, LayerView}
+use Rattle.layer_nodes.specs.Nodes.{told_by, LayerView}
 use Rattle.layer_nodes.specs.Stored.{Room}
 use Rattle.layer_build.specs.Layers.{SpaceView, last_depth, expand_last}
 use Rattle.layer_build.specs.Stacked.{place_of}

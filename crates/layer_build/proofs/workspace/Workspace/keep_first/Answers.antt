@@ -1,7 +1,7 @@
 use Rattle.std.proofs.Common.{◌≡◌, ℕ, ◌<◌, Option, map, length, vec_len, refl, rules, sym, ap, ◌∙◌, subst, arith, take}
 use Rattle.dp_model.specs.Lists.{Each}
 use Rattle.dp_laws.specs.Rules.Compiling.{keep_first}
-use Rattle.layer_nodes.specs.Nodes.{told_by, NodeView, LayerView}
+use Rattle.layer_nodes.specs.Nodes.{told_by, LayerView}
 use Rattle.layer_nodes.specs.Steps.{IsRanked, MayBeLengthened}
 use Rattle.std.proofs.lemmas.List.{length-take-le}
 use Rattle.layer_build.specs.contracts.workspace.Workspace.{the_view}

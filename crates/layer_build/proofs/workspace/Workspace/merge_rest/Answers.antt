@@ -1,7 +1,7 @@
 use Rattle.std.proofs.Common.{◌≡◌, ℕ, ◌<◌, Option, map, length, vec_len, rules, sym, ap, ◌∙◌, subst, arith}
 use Rattle.dp_model.specs.Lists.{Each}
 use Rattle.dp_laws.specs.Rules.Compiling.{merge_rest}
-use Rattle.layer_nodes.specs.Nodes.{told_by, NodeView, LayerView}
+use Rattle.layer_nodes.specs.Nodes.{told_by, LayerView}
 use Rattle.layer_nodes.specs.Stored.{Room}
 use Rattle.layer_nodes.specs.Steps.{MayBeLengthened}
 use Rattle.dp_laws.specs.Rules.Reducing.{merged_layer}

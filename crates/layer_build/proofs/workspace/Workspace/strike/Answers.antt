@@ -1,7 +1,7 @@
 use Rattle.std.proofs.Common.{◌≡◌, ℕ, map, length, vec_len, rules, sym, ap, ◌∙◌, subst, arith, []}
 use Rattle.dp_model.specs.Lists.{Each}
 use Rattle.dp_laws.specs.Rules.Compiling.{prune}
-use Rattle.layer_nodes.specs.Nodes.{told_by, NodeView, LayerView}
+use Rattle.layer_nodes.specs.Nodes.{told_by, LayerView}
 use Rattle.layer_nodes.specs.Stored.{Room}
 use Rattle.layer_nodes.specs.Steps.{IsRanked, MayBeLengthened}
 use Rattle.dp_laws.specs.Rules.Pruning.{pruned_nodes}
