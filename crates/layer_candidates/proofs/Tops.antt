@@ -4,7 +4,7 @@ use Rattle.std.proofs.Common.{◌≡◌, ◌≢◌, ℕ, zero, suc, ◌-◌, ◌
 use Rattle.std.proofs.lemmas.Bool.Decides.{nat_tests}
 use Rattle.std.proofs.lemmas.List.{get_or-set_same, get_or-set_other, length-set}
 use Rattle.layer_candidates.specs.Rows.{live_at}
-use Rattle.layer_candidates.specs.Table.{slot_of, top, has_slot, HaveFold, IsTable, IsSearched}
+use Rattle.layer_candidates.specs.Table.{slot_of, top, has_slot, IsTable, IsSearched}
 
 pub true_false : (b : Bool) → b ≡ true → b ≡ false → ⊥
 true_false b h k = let e : true ≡ false = sym h ∙ k in cc
@@ -100,11 +100,6 @@ search_smaller row live count new fold folds heads next i t s positive =
     let e = next_is row live count new fold folds heads next i t s positive in
     let few = top_within (has_slot folds (length heads) (slot_of fold (length heads))) (i - 1) in
     omega arith
-
--- at the end of the chain no row has these live cells
-pub search_ends : (row : ℕ → List ℤ) (live count : ℕ) (new : List ℤ) (fold : ℕ) (folds : List ℕ) (size i : ℕ) → HaveFold row live count new fold folds → IsSearched row live count new fold folds size i → i ≡ 0 → (k : ℕ) → k < count → live_at row live k ≢ new
-search_ends row live count new fold folds size i have s done k less e =
-    s.past k (omega arith) less (true_slot (slot_of (get_or folds k 0) size) (slot_of fold size) (ap (λ (f : ℕ). slot_of f size) (have k less e))) e
 
 pub inserted : (row : ℕ → List ℤ) (live count fold : ℕ) (folds heads next : List ℕ) → IsTable row live count folds heads next → count < length folds → count < length next → slot_of fold (length heads) < length heads
     → IsTable row live (suc count) (set folds count fold) (set heads (slot_of fold (length heads)) (suc count)) (set next count (get_or heads (slot_of fold (length heads)) 0))

@@ -3,7 +3,7 @@ use Rattle.std.proofs.lemmas.List.{get_or_read_under}
 use Rattle.layer_candidates.specs.Rows.{live_at}
 use Rattle.layer_candidates.specs.Table.{slot_of}
 use Rattle.layer_candidates.specs.Ways.{way_row}
-use Rattle.layer_candidates.proofs.Tops.{search_starts, search_steps, search_smaller, search_ends, true_false}
+use Rattle.layer_candidates.proofs.Tops.{search_starts, search_steps, search_smaller, true_false}
 use Rattle.layer_candidates.proofs.table.WayTable.find.Goals as goal
 
 pub chain-init : goal.chain-init
