@@ -18,7 +18,7 @@
 //! for journals, on `journal_replay` and `kept_board` for what their records make, on `frontier_parts`, `part_records` and `part_files` for
 //! parts of a stopped search, on `bound_cover`, `cover_pages`, `cover_book` and `cover_text` for covers and the books that they are made
 //! from, on `sha2` for digests, on `streams` for streams, on `solver_words` for the words and on `solver_report` for answers and their
-//! texts. It starts no search: the program does.
+//! texts. It starts no search: `commands` does.
 //!
 //! ```
 //! let answer = digest_text::<Knapsack>(alloc, b"3 10\n60 5\n50 4\n70 6\n");
