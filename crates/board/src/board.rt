@@ -27,6 +27,7 @@ ghost use Rattle.board.specs.View.{tag_of};
 
 use crate::blank::Blank;
 use crate::checked_out::CheckedOut;
+use crate::copying::copy_decisions;
 use crate::deciding::{decide_all, is_above};
 use crate::entering::{enter_all, put_back, reserve_rows};
 use crate::first::FirstBoard;
@@ -34,7 +35,6 @@ use crate::full::{count_full, raised_by_fringe, raised_by_slots};
 use crate::halting::cause_after;
 use crate::listing::list_frontier;
 use crate::restoring::{reach_of, restored_start};
-use crate::solving::copy_decisions;
 use crate::start::Start;
 use crate::starting::first_start;
 use board_laws::{Cause, Fate, Improved, Settings, Taken};

@@ -24,6 +24,7 @@
 mod blank;
 mod board;
 mod checked_out;
+mod copying;
 mod deciding;
 mod entering;
 mod first;
@@ -31,7 +32,6 @@ mod full;
 mod halting;
 mod listing;
 mod restoring;
-mod solving;
 mod start;
 mod starting;
 mod tag;

@@ -14,8 +14,8 @@ ghost use Rattle.board.specs.Opened.{solution_in, ticketed};
 ghost use Rattle.board.specs.Starting.{IsStart, start_best};
 
 use crate::checked_out::CheckedOut;
+use crate::copying::copy_decisions;
 use crate::entering::put_back;
-use crate::solving::copy_decisions;
 use crate::start::Start;
 use crate::starting::fringe_for;
 use board_laws::Settings;
