@@ -1,8 +1,8 @@
-ghost use Rattle.std.specs.Prelude.{◌≡◌, None, map, string_bytes};
+ghost use Rattle.std.specs.Prelude.{◌≡◌, None, map, option_map, string_bytes};
 ghost use Rattle.problem_names.specs.Parts.{IsPart, MayBePart};
 ghost use Rattle.problems.specs.Theories.{theory_of};
 ghost use Rattle.solver_words.specs.Possible.{IsPossible, MayDraw, MaySearch};
-ghost use Rattle.solver_words.specs.Words.{job_view};
+ghost use Rattle.solver_words.specs.Words.{job_view, solve};
 ghost use Rattle.answers.specs.Answers.{DigestsText, Draws, SolvesText};
 ghost use Rattle.answers.specs.Covers.{cover_limit};
 ghost use Rattle.answers.specs.Ended.{IsInputAnswer, IsJobAnswer, IsRight, LeavesAfterReports, LeavesOfSearch, readings, text_limit};
@@ -64,39 +64,12 @@ fn answer_job<S: Source, D: Disk + Send, G: Gate + Sync, R: Threads + Wait + Syn
         Job::Solve {
             model,
             settings,
-            journal: None,
-            part: None,
+            journal,
+            part,
         } => {
-            let subject = Subject {
-                name: model,
-                part: None,
-            };
-            solve_input(run, subject, settings, input, disk)
+            let subject = Subject { name: model, part };
+            solve_job(run, subject, settings, journal, input, disk)
         }
-        Job::Solve {
-            model,
-            settings,
-            journal: None,
-            part: Some(part),
-        } => {
-            let subject = Subject {
-                name: model,
-                part: Some(part),
-            };
-            solve_input(run, subject, settings, input, disk)
-        }
-        Job::Solve {
-            model,
-            settings,
-            journal: Some(path),
-            part: None,
-        } => keep_input(run, model, settings, path.as_str(), input, disk),
-        // No words ask for it.
-        Job::Solve {
-            journal: Some(_),
-            part: Some(_),
-            ..
-        } => unreachable!(),
         Job::Resume {
             path,
             settings,
@@ -118,6 +91,26 @@ fn answer_job<S: Source, D: Disk + Send, G: Gate + Sync, R: Threads + Wait + Syn
             seed,
             solve,
         } => draw_named(run, model, n, seed, solve, disk),
+    }
+}
+
+/// The answer to a search of the instance in the input, or of a part of it. Only a search of the whole keeps a journal.
+fn solve_job<S: Source, D: Disk + Send, G: Gate + Sync, R: Threads + Wait + Sync>(
+    run: &Runner<'_, G, R>,
+    subject: Subject,
+    search: JobSettings,
+    journal: Option<String>,
+    input: &mut S,
+    disk: D,
+) -> (Answer, D)
+    requires { IsPossible (solve subject.name search (option_map string_bytes journal) subject.part) }
+    ensures { IsJobAnswer D.Disk (solve subject.name search (option_map string_bytes journal) subject.part) (readings S.left S.faults input.old input.new) disk result.1 result.0 }
+{
+    match (journal, subject.part) {
+        (None, None) => solve_input(run, subject, search, input, disk),
+        (None, Some(_)) => solve_input(run, subject, search, input, disk),
+        (Some(path), None) => keep_input(run, subject.name, search, path.as_str(), input, disk),
+        (Some(_), Some(_)) => unreachable!(),
     }
 }
 
