@@ -27,8 +27,8 @@ fn folded(so_far: u64, cell: &i64) -> u64
         .wrapping_add(spread(cell.cast_unsigned()))
 }
 
-/// A product that spreads small numbers over all 64 bits.
-fn spread(n: u64) -> u64
+/// A product that spreads small numbers over all 64 bits: with an odd number, modulo 2^64.
+pub fn spread(n: u64) -> u64
     ensures { result ≡ spread n }
 {
     n.wrapping_mul(FACTOR)

@@ -4,7 +4,7 @@
 //! It stands on std alone. Its definitions (prefix, state and value, feasible solution, completion, continuation, frontier
 //! cover, bounds, counts) speak of lists of decisions only. Every other crate uses these definitions.
 //! `DpModel` is the interface of a problem, `walk` follows decisions from the root, `solution_value` those of a whole solution, `Sub` is a subproblem in memory, and
-//! `fold` hashes a row.
+//! `fold` hashes a row, and `spread` a number.
 //!
 //! ```
 //! // `value` is the value of the prefix 1, 0, and `state` the state that it reaches. It is `None` for a list that is no prefix.
@@ -22,7 +22,7 @@ mod theory;
 mod walking;
 
 pub use cut_kind::CutKind;
-pub use folds::fold;
+pub use folds::{fold, spread};
 pub use found::Found;
 pub use limits::{MOST_COST, MOST_DISTANCE, MOST_WIDTH, MOST_WORKERS};
 pub use model::{DpModel, Extended};

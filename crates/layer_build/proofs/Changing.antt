@@ -156,9 +156,9 @@ changed-space i h at old d x n region redirects first_reduced e g depths = recor
 -- what is seen of it
 pub changed-seen : (i : Inside) (at : ℕ) (old d x n : LayerView) (region : RegionView) (redirects : Room) (first_reduced : Option ℕ) → HasChanged i at old d x n redirects → (layers : List (List DdNode))
     → (the_view (changed i at x n region redirects first_reduced)).layers ≡ layers
-    → the_view (changed i at x n region redirects first_reduced) ≡ record (the_view i) { layers = layers; ranks = map told_by n.nodes; first_reduced = first_reduced }
+    → the_view (changed i at x n region redirects first_reduced) ≡ record (the_view i) { layers = layers; told = map told_by n.nodes; first_reduced = first_reduced }
 changed-seen i at old d x n region redirects first_reduced e layers seen =
-    ap₂ (λ (r : ℕ) (l : List (List DdNode)). record (the_view i) { room = r; layers = l; ranks = map told_by n.nodes; first_reduced = first_reduced }) e.rooms.nodes_room seen
+    ap₂ (λ (r : ℕ) (l : List (List DdNode)). record (the_view i) { room = r; layers = l; told = map told_by n.nodes; first_reduced = first_reduced }) e.rooms.nodes_room seen
 
 -- a rule on the last two layers
 pub changed-layers : (rule : TwoLayers → TwoLayers) (i : Inside) → the_invariant i → i.stack.first < i.stack.last → (at : ℕ) (old d x n : LayerView) (region : RegionView) (redirects : Room) (first_reduced : Option ℕ) → HasChanged i at old d x n redirects

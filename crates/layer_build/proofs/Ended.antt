@@ -170,11 +170,11 @@ newest-ranks i depth new e split =
     let s = i.stack in
     let old : nodes_in s s.last ≡ s.newest.nodes = newest-at s.vars s.first s.last s.layers.items s.newest s.last refl in
     let now : nodes_in new s.last ≡ new.newest.nodes = newest-at new.vars new.first new.last new.layers.items new.newest s.last (sym e.last) in
-    let ranks : List NodeView → List Told = map told_by in
-    sym (ap ranks now) ∙ (elim split as (λ _. ranks (nodes_in new s.last) ≡ ranks (nodes_in s s.last)) [
-      | inl same ↦ subst (λ (d : ℕ). ranks (nodes_in new d) ≡ ranks (nodes_in s d)) (sym same) (ap ranks e.nodes ∙ ranks-with (longest_from s depth) (nodes_in s depth))
-      | inr other ↦ ap ranks (e.others s.last (omega arith) other)
-    ] ∙ ap ranks old)
+    let told : List NodeView → List Told = map told_by in
+    sym (ap told now) ∙ (elim split as (λ _. told (nodes_in new s.last) ≡ told (nodes_in s s.last)) [
+      | inl same ↦ subst (λ (d : ℕ). told (nodes_in new d) ≡ told (nodes_in s d)) (sym same) (ap told e.nodes ∙ ranks-with (longest_from s depth) (nodes_in s depth))
+      | inr other ↦ ap told (e.others s.last (omega arith) other)
+    ] ∙ ap told old)
 
 -- the rows stay held
 held-with : (region : RegionView) (rule : List DdArc → Option ℤ) (nodes : List NodeView) → AreHeld region nodes → AreHeld region (map (with_suffix rule) nodes)
@@ -240,10 +240,10 @@ ended-seen i h depth new above low e =
     let s = i.stack in
     let layers = ended_by (longest_from s depth) (depth - length i.prefix.items) (the_view i).layers in
     let room : new.newest.nodes_room ≡ s.newest.nodes_room = ap (λ (l : LayerView). l.nodes_room) e.newest in
-    let ranks = newest-ranks i depth new e (is-or s.last depth) in
+    let told = newest-ranks i depth new e (is-or s.last depth) in
     let seen = layers-ended i h depth new above low e in
-    ap₂ (λ (v r : ℕ). record (the_view i) { vars = v; room = r; layers = shown_stack i.prefix.items new; ranks = map told_by new.newest.nodes }) e.vars room
-    ∙ ap₂ (λ (l : List (List DdNode)) (rs : List Told). record (the_view i) { layers = l; ranks = rs }) seen ranks
+    ap₂ (λ (v r : ℕ). record (the_view i) { vars = v; room = r; layers = shown_stack i.prefix.items new; told = map told_by new.newest.nodes }) e.vars room
+    ∙ ap₂ (λ (l : List (List DdNode)) (rs : List Told). record (the_view i) { layers = l; told = rs }) seen told
 
 -- it stays under way
 pub ended-under-way : (dp : Dp) (i : Inside) → the_invariant i → (depth : ℕ) (new : Stack) → i.stack.first ≤ depth → depth ≤ i.stack.last → HasSuffixesAt depth i.stack new

@@ -57,7 +57,7 @@ pub ranks-seen : (dp : Dp) (i : Inside) → the_invariant i → IsUnderWay dp (t
     → map told_by i.stack.newest.nodes ≡ map (λ (n : DdNode). told_of dp i.stack.last n.row) (shown_layer (path_in (last_paths i)) i.stack.newest.nodes)
 ranks-seen dp i h u =
     subst (λ (l : List DdNode). map told_by i.stack.newest.nodes ≡ map (λ (n : DdNode). told_of dp i.stack.last n.row) l) (last-seen i h)
-    (subst (λ (k : ℕ). map told_by i.stack.newest.nodes ≡ map (λ (n : DdNode). told_of dp k n.row) (last_layer (the_view i).layers)) (deep i h) u.ranks)
+    (subst (λ (k : ℕ). map told_by i.stack.newest.nodes ≡ map (λ (n : DdNode). told_of dp k n.row) (last_layer (the_view i).layers)) (deep i h) u.told)
 
 pub parents-seen : (dp : Dp) (i : Inside) → the_invariant i → IsUnderWay dp (the_view i) → i.stack.last < i.stack.vars → Each (IsParent dp i.stack.last) i.stack.newest.nodes
 parents-seen dp i h u low =
@@ -358,10 +358,10 @@ pub expanded-seen : (rule : ℕ → List DdNode → TwoLayers) (i : Inside) → 
     → ((paths : ℕ → List ℕ) → shown_below paths n.nodes ≡ (rule i.stack.last (shown_layer paths i.stack.newest.nodes)).next)
     → KeepsRoom i.stack.newest n
     → the_view (record i { stack = kept_stack i.stack (with_item i.stack.layers at x) n region; expansion = expansion })
-    ≡ record (the_view i) { layers = expand_last (rule (last_depth (the_view i))) (the_view i).layers; ranks = ranks_in n }
+    ≡ record (the_view i) { layers = expand_last (rule (last_depth (the_view i))) (the_view i).layers; told = ranks_in n }
 expanded-seen rule i h low x n region at expansion same rest above next next_rooms =
     let seen = expanded-view (rule i.stack.last) i h low x n rest above next in
-    ap₂ (λ (r : ℕ) (l : List (List DdNode)). record (the_view i) { room = r; layers = l; ranks = ranks_in n }) next_rooms.nodes_room
+    ap₂ (λ (r : ℕ) (l : List (List DdNode)). record (the_view i) { room = r; layers = l; told = ranks_in n }) next_rooms.nodes_room
     (subst (λ (k : ℕ). shown_down (at_depth i.stack.vars i.stack.first (i.stack.last + 1) (set i.stack.layers.items k x) n) (i.prefix.items ∷ []) i.stack.first (i.stack.last + 1 - i.stack.first) ≡ expand_last (rule i.stack.last) (the_view i).layers) (sym same) seen
     ∙ ap (λ (k : ℕ). expand_last (rule k) (the_view i).layers) (sym (deep i h)))
 
@@ -369,7 +369,7 @@ pub expanded-kept : (dp : Dp) (rule : ℕ → List DdNode → TwoLayers) → Exp
     → (i.stack.first + 2 ≤ i.stack.last → length i.stack.newest.nodes ≤ i.width)
     → ((paths : ℕ → List ℕ) → shown_below paths n.nodes ≡ (rule i.stack.last (shown_layer paths i.stack.newest.nodes)).next)
     → Each (IsRanked dp (i.stack.last + 1)) n.nodes → Each (λ (node : NodeView). IsSome node.parent) n.nodes → length n.nodes ≤ length i.stack.newest.nodes * dp.choices i.stack.last
-    → IsUnderWay dp (record (the_view i) { layers = expand_last (rule (last_depth (the_view i))) (the_view i).layers; ranks = ranks_in n })
+    → IsUnderWay dp (record (the_view i) { layers = expand_last (rule (last_depth (the_view i))) (the_view i).layers; told = ranks_in n })
 expanded-kept dp rule expands i h u low n narrow next ranked unmerged few =
     let V = the_view i in
     let ps = last_paths i in
@@ -382,10 +382,10 @@ expanded-kept dp rule expands i h u low n narrow next ranked unmerged few =
     let fits = fits-seen dp i h u low narrow in
     let candidates = fits.candidates in
     let choices = ap dp.choices at in
-    let ranks = ranks-below dp (i.stack.last + 1) ps n ranked in
+    let told = ranks-below dp (i.stack.last + 1) ps n ranked in
     expanded-under-way dp rule expands V (ranks_in n) u (omega arith)
     (subst (λ (k : ℕ). ranks_in n ≡ map (λ (node : DdNode). told_of dp (k + 1) node.row) (rule (last_depth V) (last_layer V.layers)).next) (sym at)
-    (subst (λ (l : List DdNode). ranks_in n ≡ map (λ (node : DdNode). told_of dp (i.stack.last + 1) node.row) l) (sym is) ranks))
+    (subst (λ (l : List DdNode). ranks_in n ≡ map (λ (node : DdNode). told_of dp (i.stack.last + 1) node.row) l) (sym is) told))
     (subst (Each (λ (node : DdNode). 1 ≤ length node.path)) (sym is) (have-paths (path_in ps) n.nodes unmerged))
     (subst (λ (l : List DdNode). length l ≤ length (last_layer V.layers) * dp.choices (last_depth V)) (sym is)
     (subst (λ (c : ℕ). length (shown_below (path_in ps) n.nodes) ≤ c * dp.choices (last_depth V)) (sym count) (subst (λ (c : ℕ). length (shown_below (path_in ps) n.nodes) ≤ length i.stack.newest.nodes * c) (sym choices) (omega arith))))

@@ -81,13 +81,13 @@ last-of-two (x ∷ y ∷ z ∷ l) = last-of-two (y ∷ z ∷ l)
 
 -- ---- the steps
 
-pub expanded-under-way : (dp : Dp) (rule : ℕ → List DdNode → TwoLayers) → Expands dp rule → (s : SpaceView) (ranks : List Told) → IsUnderWay dp s → last_depth s < dp.vars
-    → ranks ≡ map (λ (n : DdNode). told_of dp (last_depth s + 1) n.row) (rule (last_depth s) (last_layer s.layers)).next
+pub expanded-under-way : (dp : Dp) (rule : ℕ → List DdNode → TwoLayers) → Expands dp rule → (s : SpaceView) (told : List Told) → IsUnderWay dp s → last_depth s < dp.vars
+    → told ≡ map (λ (n : DdNode). told_of dp (last_depth s + 1) n.row) (rule (last_depth s) (last_layer s.layers)).next
     → Each (λ (n : DdNode). 1 ≤ length n.path) (rule (last_depth s) (last_layer s.layers)).next
     → length (rule (last_depth s) (last_layer s.layers)).next ≤ length (last_layer s.layers) * dp.choices (last_depth s)
     → length (rule (last_depth s) (last_layer s.layers)).next ≤ s.room
-    → IsUnderWay dp (record s { layers = expand_last (rule (last_depth s)) s.layers; ranks = ranks })
-expanded-under-way dp rule expands s ranks u low ranked paths few room =
+    → IsUnderWay dp (record s { layers = expand_last (rule (last_depth s)) s.layers; told = told })
+expanded-under-way dp rule expands s told u low ranked paths few room =
     let d = last_depth s in
     let here = rule d in
     let some = u.some in
@@ -104,7 +104,7 @@ expanded-under-way dp rule expands s ranks u low ranked paths few room =
       within = subst (λ (k : ℕ). IsLayerWithin dp k s.width (last_layer (expand_last here s.layers))) (sym deep) (subst (IsLayerWithin dp (d + 1) s.width) (sym last) both.next);
       two = λ less. (let above : length s.prefix + (length (expand_last here s.layers) - 1) - 1 ≡ d = omega arith in
           subst (λ (k : ℕ). AreWithin dp k s.width (last_two (expand_last here s.layers))) (sym above) (subst (AreWithin dp d s.width) (sym (two-expand here s.layers some)) both));
-      ranks = ranked ∙ (ap (λ (k : ℕ). map (λ (n : DdNode). told_of dp k n.row) (here (last_layer s.layers)).next) (sym deep)
+      told = ranked ∙ (ap (λ (k : ℕ). map (λ (n : DdNode). told_of dp k n.row) (here (last_layer s.layers)).next) (sym deep)
           ∙ ap (map (λ (n : DdNode). told_of dp (length s.prefix + (length (expand_last here s.layers) - 1)) n.row)) (sym last));
       unmerged = λ wide. subst (Each (λ (n : DdNode). 1 ≤ length n.path)) (sym last) paths;
       few = subst (λ (l : List DdNode). length l ≤ s.room) (sym last) room;
@@ -116,14 +116,14 @@ expanded-under-way dp rule expands s ranks u low ranked paths few room =
           subst (λ (l : List DdNode). length l ≤ dp.choices (length s.prefix)) (sym last) (omega arith));
     }
 
-pub two-under-way : (dp : Dp) (s : SpaceView) (ranks : List Told) (first_reduced : Option ℕ) (rule : TwoLayers → TwoLayers) → IsUnderWay dp s
+pub two-under-way : (dp : Dp) (s : SpaceView) (told : List Told) (first_reduced : Option ℕ) (rule : TwoLayers → TwoLayers) → IsUnderWay dp s
     → (length s.prefix < last_depth s → AreWithin dp (last_depth s - 1) s.width (rule (last_two s.layers)))
     → IsLayerWithin dp (last_depth s) s.width (rule (last_two s.layers)).next
-    → ranks ≡ map (λ (n : DdNode). told_of dp (last_depth s) n.row) (rule (last_two s.layers)).next
+    → told ≡ map (λ (n : DdNode). told_of dp (last_depth s) n.row) (rule (last_two s.layers)).next
     → (s.width < length (rule (last_two s.layers)).next → Each (λ (n : DdNode). 1 ≤ length n.path) (rule (last_two s.layers)).next)
     → length (rule (last_two s.layers)).next ≤ length (last_layer s.layers)
-    → IsUnderWay dp (record s { layers = on_last_two rule s.layers; ranks = ranks; first_reduced = first_reduced })
-two-under-way dp s ranks first_reduced rule u both one ranked unmerged fewer =
+    → IsUnderWay dp (record s { layers = on_last_two rule s.layers; told = told; first_reduced = first_reduced })
+two-under-way dp s told first_reduced rule u both one ranked unmerged fewer =
     let d = last_depth s in
     let some = u.some in
     let low = u.low in
@@ -142,7 +142,7 @@ two-under-way dp s ranks first_reduced rule u both one ranked unmerged fewer =
           let above : length s.prefix + (length (on_last_two rule s.layers) - 1) - 1 ≡ d - 1 = ap (λ (n : ℕ). n - 1) deep in
           subst (λ (k : ℕ). AreWithin dp k s.width (last_two (on_last_two rule s.layers))) (sym above)
           (subst (AreWithin dp (d - 1) s.width) (sym (two-two rule s.layers (omega arith))) (both deeper)));
-      ranks = ranked ∙ (ap (λ (k : ℕ). map (λ (n : DdNode). told_of dp k n.row) (rule (last_two s.layers)).next) (sym deep)
+      told = ranked ∙ (ap (λ (k : ℕ). map (λ (n : DdNode). told_of dp k n.row) (rule (last_two s.layers)).next) (sym deep)
           ∙ ap (map (λ (n : DdNode). told_of dp (length s.prefix + (length (on_last_two rule s.layers) - 1)) n.row)) (sym last));
       unmerged = λ wide. subst (Each (λ (n : DdNode). 1 ≤ length n.path)) (sym last) (unmerged (subst (λ (l : List DdNode). s.width < length l) last wide));
       few = subst (λ (l : List DdNode). length l ≤ s.room) (sym last) (omega arith);
@@ -160,15 +160,15 @@ pruned-within dp d w k t layer h =
       wide = λ wider. (let fewer = few-pruned dp d t [] 0 layer in from (λ (n : DdNode). IsBetween (k + 1) (2 * k) n.value) (h.wide (omega arith)));
     }
 
-pub pruned-under-way : (dp : Dp) (s : SpaceView) (ranks : List Told) (t : Option ℤ) → IsUnderWay dp s
-    → ranks ≡ map (λ (n : DdNode). told_of dp (last_depth s) n.row) (prune dp (last_depth s) t (last_two s.layers)).next
-    → IsUnderWay dp (record s { layers = on_last_two (prune dp (last_depth s) t) s.layers; ranks = ranks })
-pruned-under-way dp s ranks t u ranked =
+pub pruned-under-way : (dp : Dp) (s : SpaceView) (told : List Told) (t : Option ℤ) → IsUnderWay dp s
+    → told ≡ map (λ (n : DdNode). told_of dp (last_depth s) n.row) (prune dp (last_depth s) t (last_two s.layers)).next
+    → IsUnderWay dp (record s { layers = on_last_two (prune dp (last_depth s) t) s.layers; told = told })
+pruned-under-way dp s told t u ranked =
     let d = last_depth s in
     let last = last-of-two s.layers in
     let fewer = few-pruned dp d t [] 0 (last_layer s.layers) in
     let move : (P : List DdNode → Type 0) → P (pruned_nodes dp d t [] 0 (last_layer s.layers)) → P (pruned_nodes dp d t [] 0 (last_two s.layers).next) = λ P p. subst (λ (l : List DdNode). P (pruned_nodes dp d t [] 0 l)) (sym last) p in
-    two-under-way dp s ranks s.first_reduced (prune dp d t) u
+    two-under-way dp s told s.first_reduced (prune dp d t) u
     (λ deeper. (let same : d - 1 + 1 ≡ d = omega arith in subst (λ (k : ℕ). AreWithin dp (d - 1) s.width (prune dp k t (last_two s.layers))) same (prune-within dp u.lawful (d - 1) s.width t (last_two s.layers) (u.two deeper))))
     (move (IsLayerWithin dp d s.width) (pruned-within dp d s.width d t (last_layer s.layers) u.within))
     ranked
@@ -184,10 +184,10 @@ wide-deep dp s u wide = go (grind arith)
     go (inl less) = less
     go (inr same) = absurd (let least = u.one same in let some = u.prepared.width.positive in omega arith)
 
-pub start-under-way : (dp : Dp) → IsLawful dp → (s : SpaceView) (p : List ℕ) (ranks : List Told) (held : ℕ) → IsPreparedFor dp s → IsPrefix dp p
-    → ranks ≡ map (λ (n : DdNode). told_of dp (length p) n.row) (start_layer (reached dp p))
-    → IsUnderWay dp (record s { prefix = p; layers = start_layer (reached dp p) ∷ []; ranks = ranks; first_reduced = None; held = held })
-start-under-way dp laws s p ranks held h prefix ranked =
+pub start-under-way : (dp : Dp) → IsLawful dp → (s : SpaceView) (p : List ℕ) (told : List Told) (held : ℕ) → IsPreparedFor dp s → IsPrefix dp p
+    → told ≡ map (λ (n : DdNode). told_of dp (length p) n.row) (start_layer (reached dp p))
+    → IsUnderWay dp (record s { prefix = p; layers = start_layer (reached dp p) ∷ []; told = told; first_reduced = None; held = held })
+start-under-way dp laws s p told held h prefix ranked =
     let low = IsPrefix-length dp p prefix in
     let some = h.enough.some in
     let positive = h.width.positive in
@@ -200,24 +200,24 @@ start-under-way dp laws s p ranks held h prefix ranked =
       low = omega arith;
       within = subst (λ (k : ℕ). IsLayerWithin dp k s.width (start_layer (reached dp p))) (sym same) (start-within dp laws p s.width prefix low h.width.positive);
       two = λ less. absurd (omega arith);
-      ranks = ranked ∙ ap (λ (k : ℕ). map (λ (n : DdNode). told_of dp k n.row) (start_layer (reached dp p))) (sym same);
+      told = ranked ∙ ap (λ (k : ℕ). map (λ (n : DdNode). told_of dp k n.row) (start_layer (reached dp p))) (sym same);
       unmerged = λ wide. absurd (omega arith);
       few = some;
       one = λ e. omega arith;
       second = λ e. absurd (omega arith);
     }
 
-pub kept-under-way : (dp : Dp) (s : SpaceView) (ranks : List Told) (first_reduced : Option ℕ) → IsUnderWay dp s → s.width < length (last_layer s.layers)
-    → ranks ≡ map (λ (n : DdNode). told_of dp (last_depth s) n.row) (keep_first s.width (last_two s.layers)).next
-    → IsUnderWay dp (record s { layers = on_last_two (keep_first s.width) s.layers; ranks = ranks; first_reduced = first_reduced })
-kept-under-way dp s ranks first_reduced u wide ranked =
+pub kept-under-way : (dp : Dp) (s : SpaceView) (told : List Told) (first_reduced : Option ℕ) → IsUnderWay dp s → s.width < length (last_layer s.layers)
+    → told ≡ map (λ (n : DdNode). told_of dp (last_depth s) n.row) (keep_first s.width (last_two s.layers)).next
+    → IsUnderWay dp (record s { layers = on_last_two (keep_first s.width) s.layers; told = told; first_reduced = first_reduced })
+kept-under-way dp s told first_reduced u wide ranked =
     let d = last_depth s in
     let deeper = wide-deep dp s u wide in
     let both : AreWithin dp (d - 1) s.width (keep_first s.width (last_two s.layers)) = keep-first-within dp u.lawful (d - 1) s.width (last_two s.layers) (u.two deeper) in
     let same : d - 1 + 1 ≡ d = omega arith in
     let last = ap (λ (l : List DdNode). length l) (last-of-two s.layers) in
     let short : length (take s.width (last_two s.layers).next) ≡ s.width = length-take-le s.width (last_two s.layers).next (omega arith) in
-    two-under-way dp s ranks first_reduced (keep_first s.width) u (λ _. both) (subst (λ (k : ℕ). IsLayerWithin dp k s.width (take s.width (last_two s.layers).next)) same both.next) ranked
+    two-under-way dp s told first_reduced (keep_first s.width) u (λ _. both) (subst (λ (k : ℕ). IsLayerWithin dp k s.width (take s.width (last_two s.layers).next)) same both.next) ranked
     (λ wider. absurd (omega arith)) (omega arith)
 
 pub merged-length : (dp : Dp) (k w : ℕ) (layer : List DdNode) → 1 ≤ w → w < length layer → length (merged_layer dp k w layer) ≡ w
@@ -226,10 +226,10 @@ merged-length dp k w layer some wide =
     let short = length-take-le (w - 1) layer (omega arith) in
     omega arith
 
-pub merged-under-way : (dp : Dp) (s : SpaceView) (ranks : List Told) (first_reduced : Option ℕ) → IsUnderWay dp s → s.width < length (last_layer s.layers)
-    → ranks ≡ map (λ (n : DdNode). told_of dp (last_depth s) n.row) (merge_rest dp (last_depth s) s.width (last_two s.layers)).next
-    → IsUnderWay dp (record s { layers = on_last_two (merge_rest dp (last_depth s) s.width) s.layers; ranks = ranks; first_reduced = first_reduced })
-merged-under-way dp s ranks first_reduced u wide ranked =
+pub merged-under-way : (dp : Dp) (s : SpaceView) (told : List Told) (first_reduced : Option ℕ) → IsUnderWay dp s → s.width < length (last_layer s.layers)
+    → told ≡ map (λ (n : DdNode). told_of dp (last_depth s) n.row) (merge_rest dp (last_depth s) s.width (last_two s.layers)).next
+    → IsUnderWay dp (record s { layers = on_last_two (merge_rest dp (last_depth s) s.width) s.layers; told = told; first_reduced = first_reduced })
+merged-under-way dp s told first_reduced u wide ranked =
     let d = last_depth s in
     let deeper = wide-deep dp s u wide in
     let positive = u.prepared.width.positive in
@@ -238,5 +238,5 @@ merged-under-way dp s ranks first_reduced u wide ranked =
     let both : AreWithin dp (d - 1) s.width (merge_rest dp d s.width (last_two s.layers)) =
     subst (λ (k : ℕ). AreWithin dp (d - 1) s.width (merge_rest dp k s.width (last_two s.layers))) same (merge-within dp u.lawful (d - 1) s.width (last_two s.layers) positive (omega arith) (u.two deeper)) in
     let short = merged-length dp d s.width (last_two s.layers).next positive (omega arith) in
-    two-under-way dp s ranks first_reduced (merge_rest dp d s.width) u (λ _. both) (subst (λ (k : ℕ). IsLayerWithin dp k s.width (merged_layer dp d s.width (last_two s.layers).next)) same both.next) ranked
+    two-under-way dp s told first_reduced (merge_rest dp d s.width) u (λ _. both) (subst (λ (k : ℕ). IsLayerWithin dp k s.width (merged_layer dp d s.width (last_two s.layers).next)) same both.next) ranked
     (λ wider. absurd (omega arith)) (omega arith)

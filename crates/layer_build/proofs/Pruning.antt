@@ -42,32 +42,32 @@ pub dropped-last : (dp : Dp) (k : ℕ) (t : Option ℤ) (ls : List (List DdNode)
 dropped-last dp k t ls free = two-same (drop_dominated dp k) (prune dp k t) ls (λ above. dropped-pruned dp k t (record { above = above; next = last_layer ls }) free)
 
 abbrev after_expand : Dp → Option ℤ → List Told → SpaceView → SpaceView
-after_expand dp t ranks s = record s { layers = expand_last (expand_sifted dp (last_depth s) t) s.layers; ranks = ranks }
+after_expand dp t told s = record s { layers = expand_last (expand_sifted dp (last_depth s) t) s.layers; told = told }
 
 abbrev after_drop : Dp → List Told → SpaceView → SpaceView
-after_drop dp ranks s = record s { layers = on_last_two (drop_dominated dp (last_depth s)) s.layers; ranks = ranks }
+after_drop dp told s = record s { layers = on_last_two (drop_dominated dp (last_depth s)) s.layers; told = told }
 
-deeper : (dp : Dp) (t : Option ℤ) (ranks : List Told) (s : SpaceView) → 1 ≤ length s.layers → last_depth (after_expand dp t ranks s) ≡ last_depth s + 1
-deeper dp t ranks s some = let long = length-expand (expand_sifted dp (last_depth s) t) s.layers some in omega arith
+deeper : (dp : Dp) (t : Option ℤ) (told : List Told) (s : SpaceView) → 1 ≤ length s.layers → last_depth (after_expand dp t told s) ≡ last_depth s + 1
+deeper dp t told s some = let long = length-expand (expand_sifted dp (last_depth s) t) s.layers some in omega arith
 
 -- no node of the last layer is struck
-pub none-struck-now : (dp : Dp) (t : Option ℤ) (s s1 : SpaceView) → 1 ≤ length s.layers → s1 ≡ after_expand dp t s1.ranks s → NoneIsStruck dp (last_depth s1) t (last_layer s1.layers)
+pub none-struck-now : (dp : Dp) (t : Option ℤ) (s s1 : SpaceView) → 1 ≤ length s.layers → s1 ≡ after_expand dp t s1.told s → NoneIsStruck dp (last_depth s1) t (last_layer s1.layers)
 none-struck-now dp t s s1 some e =
     let k = last_depth s in
     let last = last-expand (expand_sifted dp k t) s.layers some in
     subst (λ (v : SpaceView). NoneIsStruck dp (last_depth v) t (last_layer v.layers)) (sym e)
-    (subst (λ n. NoneIsStruck dp n t (last_layer (expand_last (expand_sifted dp k t) s.layers))) (sym (deeper dp t s1.ranks s some))
+    (subst (λ n. NoneIsStruck dp n t (last_layer (expand_last (expand_sifted dp k t) s.layers))) (sym (deeper dp t s1.told s some))
     (subst (NoneIsStruck dp (k + 1) t) (sym last) (none-struck dp (k + 1) t (expand dp k (last_layer s.layers)).next)))
 
 -- the last layer is expanded and pruned
-pub expanded-pruned : (dp : Dp) (t : Option ℤ) (s s1 new : SpaceView) → 1 ≤ length s.layers → s1 ≡ after_expand dp t s1.ranks s → new ≡ after_drop dp new.ranks s1
-    → new ≡ record s { layers = expand_last (λ l. prune dp (last_depth s + 1) t (expand dp (last_depth s) l)) s.layers; ranks = new.ranks }
+pub expanded-pruned : (dp : Dp) (t : Option ℤ) (s s1 new : SpaceView) → 1 ≤ length s.layers → s1 ≡ after_expand dp t s1.told s → new ≡ after_drop dp new.told s1
+    → new ≡ record s { layers = expand_last (λ l. prune dp (last_depth s + 1) t (expand dp (last_depth s) l)) s.layers; told = new.told }
 expanded-pruned dp t s s1 new some e1 e2 =
     let k = last_depth s in
     let ls = s.layers in
     let both : on_last_two (drop_dominated dp (k + 1)) (expand_last (expand_sifted dp k t) ls) ≡ expand_last (λ l. prune dp (k + 1) t (expand dp k l)) ls =
     two-expanded (drop_dominated dp (k + 1)) (expand_sifted dp k t) ls
     ∙ expand-same (λ l. drop_dominated dp (k + 1) (expand_sifted dp k t l)) (λ l. prune dp (k + 1) t (expand dp k l)) (λ l. dropped-sifted dp (k + 1) t (expand dp k l)) ls in
-    (e2 ∙ ap (after_drop dp new.ranks) e1)
-    ∙ (ap (λ n. record s { layers = on_last_two (drop_dominated dp n) (expand_last (expand_sifted dp k t) ls); ranks = new.ranks }) (deeper dp t s1.ranks s some)
-    ∙ ap (λ (l : List (List DdNode)). record s { layers = l; ranks = new.ranks }) both)
+    (e2 ∙ ap (after_drop dp new.told) e1)
+    ∙ (ap (λ n. record s { layers = on_last_two (drop_dominated dp n) (expand_last (expand_sifted dp k t) ls); told = new.told }) (deeper dp t s1.told s some)
+    ∙ ap (λ (l : List (List DdNode)). record s { layers = l; told = new.told }) both)

@@ -77,16 +77,16 @@ far-of k z low h = let a = h.low in let b = h.high in record { low = omega (arit
 pub nodes-of : (dp : Dp) (k : ℕ) (paths : ℕ → List ℕ) (i : ℕ) (nodes : List NodeView) → k ≤ 1024
     → Each (λ (n : DdNode). IsStateOf dp k n.row) (shown_from paths i nodes) → Each (λ (n : DdNode). IsBetween (k + 1) (2 * k + 1) n.value) (shown_from paths i nodes)
     → map told_by nodes ≡ map (λ (n : DdNode). told_of dp k n.row) (shown_from paths i nodes) → Each (IsNodeOf dp k) nodes
-nodes-of dp k paths i [] low states values ranks = tt
-nodes-of dp k paths i (n ∷ nodes) low states values ranks =
-    (record { state = states.0; rank = ap (λ (t : Told). t.rank) (head-of (told_by n) (told_of dp k n.row) _ _ ranks); hash = ap (λ (t : Told). t.hash) (head-of (told_by n) (told_of dp k n.row) _ _ ranks); value = nearly-of k n.value low values.0 }, nodes-of dp k paths (i + 1) nodes low states.1 values.1 (tail-of _ _ _ _ ranks))
+nodes-of dp k paths i [] low states values told = tt
+nodes-of dp k paths i (n ∷ nodes) low states values told =
+    (record { state = states.0; rank = ap (λ (t : Told). t.rank) (head-of (told_by n) (told_of dp k n.row) _ _ told); hash = ap (λ (t : Told). t.hash) (head-of (told_by n) (told_of dp k n.row) _ _ told); value = nearly-of k n.value low values.0 }, nodes-of dp k paths (i + 1) nodes low states.1 values.1 (tail-of _ _ _ _ told))
 
 pub parents-of : (dp : Dp) (k : ℕ) (paths : ℕ → List ℕ) (i : ℕ) (nodes : List NodeView) → k < 1024
     → Each (λ (n : DdNode). IsStateOf dp k n.row) (shown_from paths i nodes) → Each (λ (n : DdNode). IsBetween (k + 1) (2 * k + 1) n.value) (shown_from paths i nodes)
     → map told_by nodes ≡ map (λ (n : DdNode). told_of dp k n.row) (shown_from paths i nodes) → Each (IsParent dp k) nodes
-parents-of dp k paths i [] low states values ranks = tt
-parents-of dp k paths i (n ∷ nodes) low states values ranks =
-    (record { state = states.0; rank = ap (λ (t : Told). t.rank) (head-of (told_by n) (told_of dp k n.row) _ _ ranks); hash = ap (λ (t : Told). t.hash) (head-of (told_by n) (told_of dp k n.row) _ _ ranks); value = near-of k n.value low values.0 }, parents-of dp k paths (i + 1) nodes low states.1 values.1 (tail-of _ _ _ _ ranks))
+parents-of dp k paths i [] low states values told = tt
+parents-of dp k paths i (n ∷ nodes) low states values told =
+    (record { state = states.0; rank = ap (λ (t : Told). t.rank) (head-of (told_by n) (told_of dp k n.row) _ _ told); hash = ap (λ (t : Told). t.hash) (head-of (told_by n) (told_of dp k n.row) _ _ told); value = near-of k n.value low values.0 }, parents-of dp k paths (i + 1) nodes low states.1 values.1 (tail-of _ _ _ _ told))
 
 -- a node with a parent has a path
 some-path : (paths : ℕ → List ℕ) (parent : Option ℕ) (d : ℕ) → IsSome parent → 1 ≤ length (path_below paths parent d)

@@ -328,8 +328,8 @@ pub newest-seen : (i : Inside) → the_invariant i → (v : SpaceView) → the_v
     → KeepsRoom i.stack.newest n → the_view (with_newest i n) ≡ record v { layers = suffix_in (depth - length v.prefix) node s v.layers }
 newest-seen i h v e depth node s at last n nodes rooms =
     let layers = suffix_in (depth - length i.prefix.items) node s (the_view i).layers in
-    ap₂ (λ (r : ℕ) (l : List (List DdNode)). record (the_view i) { room = r; layers = l; ranks = map told_by n.nodes }) rooms.nodes_room (set-newest i h depth node s at last n nodes)
-    ∙ (ap (λ (r : List Told). record (the_view i) { layers = layers; ranks = r }) (ap (map told_by) nodes ∙ set-ranks i.stack.newest.nodes node s)
+    ap₂ (λ (r : ℕ) (l : List (List DdNode)). record (the_view i) { room = r; layers = l; told = map told_by n.nodes }) rooms.nodes_room (set-newest i h depth node s at last n nodes)
+    ∙ (ap (λ (r : List Told). record (the_view i) { layers = layers; told = r }) (ap (map told_by) nodes ∙ set-ranks i.stack.newest.nodes node s)
     ∙ ap (λ (t : SpaceView). record t { layers = suffix_in (depth - length t.prefix) node s t.layers }) e)
 
 -- the layer at the depth was lent, and came back with the suffix

@@ -176,7 +176,7 @@ like-under-way dp s m h u =
       low = omega arith;
       within = subst (λ (k : ℕ). IsLayerWithin dp k s.width (last_layer m)) (sym deep) (within-like dp (last_depth s) s.width (last_layer s.layers) (last_layer m) last u.within);
       two = λ less. subst (λ (k : ℕ). AreWithin dp (k - 1) s.width (last_two m)) (sym deep) (both-like dp (last_depth s - 1) s.width (last_two s.layers) (last_two m) two.0 two.1 (u.two (omega arith)));
-      ranks = u.ranks ∙ (map-like (λ (n : DdNode). told_of dp (last_depth s) n.row) (λ a b e. ap (λ (n : DdNode). told_of dp (last_depth s) n.row) e) (last_layer s.layers) (last_layer m) last
+      told = u.told ∙ (map-like (λ (n : DdNode). told_of dp (last_depth s) n.row) (λ a b e. ap (λ (n : DdNode). told_of dp (last_depth s) n.row) e) (last_layer s.layers) (last_layer m) last
           ∙ ap (λ (k : ℕ). map (λ (n : DdNode). told_of dp k n.row) (last_layer m)) (sym deep));
       unmerged = λ wide. each-like (λ (n : DdNode). 1 ≤ length n.path) (λ a b e p. subst (λ (n : DdNode). 1 ≤ length n.path) e p) (last_layer s.layers) (last_layer m) last (u.unmerged (omega arith));
       few = omega arith;

@@ -18,7 +18,7 @@ pub record SpaceView : Type 0 where
   pub room : ℕ
   pub prefix : List ℕ
   pub layers : List (List DdNode)
-  pub ranks : List Told
+  pub told : List Told
   pub first_reduced : Option ℕ
   pub held : ℕ
   pub path : List ℕ

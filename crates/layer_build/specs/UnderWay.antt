@@ -27,7 +27,7 @@ pub record IsUnderWay (dp : Dp) (s : SpaceView) : Type 0 where
   pub low : last_depth s ≤ dp.vars
   pub within : IsLayerWithin dp (last_depth s) s.width (last_layer s.layers)
   pub two : length s.prefix < last_depth s → AreWithin dp (last_depth s - 1) s.width (last_two s.layers)
-  pub ranks : s.ranks ≡ map (λ (node : DdNode). told_of dp (last_depth s) node.row) (last_layer s.layers)
+  pub told : s.told ≡ map (λ (node : DdNode). told_of dp (last_depth s) node.row) (last_layer s.layers)
   pub unmerged : s.width < length (last_layer s.layers) → Each (λ (node : DdNode). 1 ≤ length node.path) (last_layer s.layers)
   pub few : length (last_layer s.layers) ≤ s.room
   pub one : last_depth s ≡ length s.prefix → length (last_layer s.layers) ≤ 1

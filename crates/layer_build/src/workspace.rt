@@ -64,7 +64,7 @@ impl Model for Workspace {
       room = s.stack.newest.nodes_room;
       prefix = s.prefix.items;
       layers = shown_stack s.prefix.items s.stack;
-      ranks = map told_by s.stack.newest.nodes;
+      told = map told_by s.stack.newest.nodes;
       first_reduced = s.first_reduced;
       held = s.held;
       path = s.path.items;
@@ -126,7 +126,7 @@ impl Workspace {
         ensures layers { self.new ≡ record self.old {
           prefix = sub.now.subproblem.decisions;
           layers = start_layer (reached (M.meaning (M.numbers model.now)) sub.now.subproblem.decisions) ∷ [];
-          ranks = self.new.ranks;
+          told = self.new.told;
           first_reduced = None;
           held = length sub.now.subproblem.decisions;
         } }
@@ -152,7 +152,7 @@ impl Workspace {
         requires narrow { length self.old.prefix + 2 ≤ last_depth self.old → length (last_layer self.old.layers) ≤ self.old.width }
         ensures layers { self.new ≡ record self.old {
           layers = expand_last (expanded_by strikes (M.meaning (M.numbers model.now)) (last_depth self.old)) self.old.layers;
-          ranks = self.new.ranks;
+          told = self.new.told;
         } }
         ensures under_way { IsUnderWay (M.meaning (M.numbers model.now)) self.new }
     {
@@ -177,7 +177,7 @@ impl Workspace {
         requires narrow { length self.old.prefix + 2 ≤ last_depth self.old → length (last_layer self.old.layers) ≤ self.old.width }
         ensures layers { self.new ≡ record self.old {
           layers = expand_last (expand (M.meaning (M.numbers model.now)) (last_depth self.old)) self.old.layers;
-          ranks = self.new.ranks;
+          told = self.new.told;
         } }
         ensures under_way { IsUnderWay (M.meaning (M.numbers model.now)) self.new }
     {
@@ -192,7 +192,7 @@ impl Workspace {
         requires narrow { length self.old.prefix + 2 ≤ last_depth self.old → length (last_layer self.old.layers) ≤ self.old.width }
         ensures layers { self.new ≡ record self.old {
           layers = expand_last (expand_sifted (M.meaning (M.numbers model.now)) (last_depth self.old) threshold) self.old.layers;
-          ranks = self.new.ranks;
+          told = self.new.told;
         } }
         ensures under_way { IsUnderWay (M.meaning (M.numbers model.now)) self.new }
     {
@@ -205,7 +205,7 @@ impl Workspace {
         requires under_way { IsUnderWay (M.meaning (M.numbers model.now)) self.old }
         ensures layers { self.new ≡ record self.old {
           layers = on_last_two (prune (M.meaning (M.numbers model.now)) (last_depth self.old) threshold) self.old.layers;
-          ranks = self.new.ranks;
+          told = self.new.told;
         } }
         ensures under_way { IsUnderWay (M.meaning (M.numbers model.now)) self.new }
     {
@@ -227,7 +227,7 @@ impl Workspace {
         requires under_way { IsUnderWay (M.meaning (M.numbers model.now)) self.old }
         ensures layers { self.new ≡ record self.old {
           layers = on_last_two (drop_dominated (M.meaning (M.numbers model.now)) (last_depth self.old)) self.old.layers;
-          ranks = self.new.ranks;
+          told = self.new.told;
         } }
         ensures under_way { (t : Option ℤ) → Each (λ node. is_struck (M.meaning (M.numbers model.now)) (last_depth self.old) t node ≡ false) (last_layer self.old.layers) → IsUnderWay (M.meaning (M.numbers model.now)) self.new }
     {
@@ -250,7 +250,7 @@ impl Workspace {
         requires narrow { length self.old.prefix + 2 ≤ last_depth self.old → length (last_layer self.old.layers) ≤ self.old.width }
         ensures layers { self.new ≡ record self.old {
           layers = expand_last (λ layer. prune (M.meaning (M.numbers model.now)) (last_depth self.old + 1) threshold (expand (M.meaning (M.numbers model.now)) (last_depth self.old) layer)) self.old.layers;
-          ranks = self.new.ranks;
+          told = self.new.told;
         } }
         ensures under_way { IsUnderWay (M.meaning (M.numbers model.now)) self.new }
     {
@@ -264,7 +264,7 @@ impl Workspace {
         requires wide { self.old.width < length (last_layer self.old.layers) }
         ensures layers { self.new ≡ record self.old {
           layers = on_last_two (keep_first self.old.width) self.old.layers;
-          ranks = self.new.ranks;
+          told = self.new.told;
           first_reduced = reduced_first self.old.first_reduced (last_depth self.old);
         } }
         ensures under_way { (dp : Dp) → IsUnderWay dp self.old → IsUnderWay dp self.new }
@@ -286,7 +286,7 @@ impl Workspace {
         requires wide { self.old.width < length (last_layer self.old.layers) }
         ensures layers { self.new ≡ record self.old {
           layers = on_last_two (merge_rest (M.meaning (M.numbers model.now)) (last_depth self.old) self.old.width) self.old.layers;
-          ranks = self.new.ranks;
+          told = self.new.told;
           first_reduced = reduced_first self.old.first_reduced (last_depth self.old);
         } }
         ensures under_way { IsUnderWay (M.meaning (M.numbers model.now)) self.new }

@@ -19,7 +19,7 @@ use Rattle.layer_candidates.specs.declared.way.Way.{Way}
 use Rattle.layer_candidates.specs.declared.member.Member.{Member}
 use Rattle.layer_candidates.specs.HeldRows.{held_row, AreLive, AreSame, HasExchanged, HasWritten}
 use Rattle.layer_candidates.specs.Rows.{HasZeros}
-use Rattle.layer_candidates.specs.Table.{HaveFold}
+use Rattle.layer_candidates.specs.Table.{HaveHash}
 use Rattle.layer_candidates.specs.Ways.{rows_of, way_row, reached_by, all_reached, IsNear, IsNearly, IsWay, AllHaveZeros, AreHashed, AreWays, AreJoined}
 use Rattle.layer_candidates.specs.Members.{member_rows, member_as, members_as, IsMemberOf}
 use Rattle.layer_candidates.specs.Extending.{HasWayRoom, parent_as, all_allowed, HasExtended, AreExtended}
@@ -53,10 +53,10 @@ written dp laws k s d old new spot ways test allowed live h =
 pub rows-zeros : (dp : Dp) (k live : ℕ) (row : ℕ → List ℤ) (ways : List Way) → AllHaveZeros dp k live → AreWays dp k row ways → (i : ℕ) → i < length ways → HasZeros live (row i)
 rows-zeros dp k live row ways zeros good i less = zeros (row i) (good i less).state
 
--- of rows that begin with zeros those have the fold of a state that have its live cells
-pub have-fold : (dp : Dp) (k live : ℕ) (row : ℕ → List ℤ) (ways : List Way) (folds : List ℕ) (state : List ℤ) (hash : ℕ) → AreHashed dp k row (length ways) folds → ((i : ℕ) → i < length ways → HasZeros live (row i)) → HasZeros live state
-    → hash ≡ dp.hash k state → HaveFold row live (length ways) (drop live state) hash folds
-have-fold dp k live row ways folds state hash hashed zeros new is = λ i less e. hashed i less ∙ (ap (dp.hash k) (zeros-same live (row i) state (zeros i less) new e) ∙ sym is)
+-- of rows that begin with zeros those have the hash of a state that have its live cells
+pub have-hash : (dp : Dp) (k live : ℕ) (row : ℕ → List ℤ) (ways : List Way) (hashes : List ℕ) (state : List ℤ) (hash : ℕ) → AreHashed dp k row (length ways) hashes → ((i : ℕ) → i < length ways → HasZeros live (row i)) → HasZeros live state
+    → hash ≡ dp.hash k state → HaveHash row live (length ways) (drop live state) hash hashes
+have-hash dp k live row ways hashes state hash hashed zeros new is = λ i less e. hashed i less ∙ (ap (dp.hash k) (zeros-same live (row i) state (zeros i less) new e) ∙ sym is)
 
 -- Where the row at the spot is kept, another one is the spot.
 
@@ -144,42 +144,42 @@ way-reaches dp k paths row s d step way value a b c e = cc
 
 -- Decisions.
 
-pub room-less : (m n cap cap2 : ℕ) (folds folds2 next next2 : List ℕ) → HasWayRoom n cap folds next → m ≤ n → cap2 ≡ cap → length folds2 ≡ length folds → length next2 ≡ length next → HasWayRoom m cap2 folds2 next2
-room-less m n cap cap2 folds folds2 next next2 h few a b c =
-    let two = h.ways_hold in let three = h.folds_hold in let four = h.next_hold in let five = h.small in
-    record { ways_hold = omega arith; folds_hold = omega arith; next_hold = omega arith; small = omega arith }
+pub room-less : (m n cap cap2 : ℕ) (hashes hashes2 next next2 : List ℕ) → HasWayRoom n cap hashes next → m ≤ n → cap2 ≡ cap → length hashes2 ≡ length hashes → length next2 ≡ length next → HasWayRoom m cap2 hashes2 next2
+room-less m n cap cap2 hashes hashes2 next next2 h few a b c =
+    let two = h.ways_hold in let three = h.hashes_hold in let four = h.next_hold in let five = h.small in
+    record { ways_hold = omega arith; hashes_hold = omega arith; next_hold = omega arith; small = omega arith }
 
 module _ (dp : Dp) (k step : ℕ) (s : List ℤ) (value : ℤ) (live : ℕ) where
   -- no decision
-  pub extended-none : (row : ℕ → List ℤ) (ways : List Way) (folds heads next : List ℕ) → AreJoined dp (k + 1) row live ways folds heads next
-      → HasExtended dp k step s value [] live row ways row ways folds heads next
-  extended-none row ways folds heads next j = record { joined = j; list = λ paths. refl; few = omega arith }
+  pub extended-none : (row : ℕ → List ℤ) (ways : List Way) (hashes heads next : List ℕ) → AreJoined dp (k + 1) row live ways hashes heads next
+      → HasExtended dp k step s value [] live row ways row ways hashes heads next
+  extended-none row ways hashes heads next j = record { joined = j; list = λ paths. refl; few = omega arith }
 
   -- one that is allowed
-  pub extended-one : (d : ℕ) (row row2 : ℕ → List ℤ) (ways ways2 : List Way) (folds heads next : List ℕ) → dp.allowed k s d ≡ true → AreJoined dp (k + 1) row2 live ways2 folds heads next
+  pub extended-one : (d : ℕ) (row row2 : ℕ → List ℤ) (ways ways2 : List Way) (hashes heads next : List ℕ) → dp.allowed k s d ≡ true → AreJoined dp (k + 1) row2 live ways2 hashes heads next
       → ((paths : ℕ → List ℕ) → all_reached paths row2 ways2 ≡ joined (all_reached paths row ways) (extended dp k (parent_as paths step s value) d))
       → length ways2 ≤ length ways + 1
-      → HasExtended dp k step s value (d ∷ []) live row ways row2 ways2 folds heads next
-  extended-one d row row2 ways ways2 folds heads next test j list few = record {
+      → HasExtended dp k step s value (d ∷ []) live row ways row2 ways2 hashes heads next
+  extended-one d row row2 ways ways2 hashes heads next test j list few = record {
     joined = j;
     list = λ paths. list paths ∙ sym (ap (λ b. all_joined (all_reached paths row ways) (map (extended dp k (parent_as paths step s value)) (cond b (d ∷ []) []))) test);
     few = few;
   }
 
   -- one that is not
-  pub extended-same : (d : ℕ) (row : ℕ → List ℤ) (ways : List Way) (folds heads next : List ℕ) → dp.allowed k s d ≡ false → AreJoined dp (k + 1) row live ways folds heads next
-      → HasExtended dp k step s value (d ∷ []) live row ways row ways folds heads next
-  extended-same d row ways folds heads next test j = record {
+  pub extended-same : (d : ℕ) (row : ℕ → List ℤ) (ways : List Way) (hashes heads next : List ℕ) → dp.allowed k s d ≡ false → AreJoined dp (k + 1) row live ways hashes heads next
+      → HasExtended dp k step s value (d ∷ []) live row ways row ways hashes heads next
+  extended-same d row ways hashes heads next test j = record {
     joined = j;
     list = λ paths. sym (ap (λ b. all_joined (all_reached paths row ways) (map (extended dp k (parent_as paths step s value)) (cond b (d ∷ []) []))) test);
     few = omega arith;
   }
 
   -- some, and then others
-  extended-both : (ds es : List ℕ) (old_row row row2 : ℕ → List ℤ) (old_ways ways ways2 : List Way) (folds heads next folds2 heads2 next2 : List ℕ)
-      → HasExtended dp k step s value ds live old_row old_ways row ways folds heads next → HasExtended dp k step s value es live row ways row2 ways2 folds2 heads2 next2
-      → HasExtended dp k step s value (ds ++ es) live old_row old_ways row2 ways2 folds2 heads2 next2
-  extended-both ds es old_row row row2 old_ways ways ways2 folds heads next folds2 heads2 next2 g h =
+  extended-both : (ds es : List ℕ) (old_row row row2 : ℕ → List ℤ) (old_ways ways ways2 : List Way) (hashes heads next hashes2 heads2 next2 : List ℕ)
+      → HasExtended dp k step s value ds live old_row old_ways row ways hashes heads next → HasExtended dp k step s value es live row ways row2 ways2 hashes2 heads2 next2
+      → HasExtended dp k step s value (ds ++ es) live old_row old_ways row2 ways2 hashes2 heads2 next2
+  extended-both ds es old_row row row2 old_ways ways ways2 hashes heads next hashes2 heads2 next2 g h =
       let sum = length-append ds es in
       let one = g.few in
       let two = h.few in
@@ -195,12 +195,12 @@ module _ (dp : Dp) (k step : ℕ) (s : List ℤ) (value : ℤ) (live : ℕ) wher
       }
 
   -- those below n, and then n
-  pub extended-next : (n : ℕ) (old_row row row2 : ℕ → List ℤ) (old_ways ways ways2 : List Way) (folds heads next folds2 heads2 next2 : List ℕ)
-      → HasExtended dp k step s value (below n) live old_row old_ways row ways folds heads next → HasExtended dp k step s value (n ∷ []) live row ways row2 ways2 folds2 heads2 next2
-      → HasExtended dp k step s value (below (n + 1)) live old_row old_ways row2 ways2 folds2 heads2 next2
-  extended-next n old_row row row2 old_ways ways ways2 folds heads next folds2 heads2 next2 g h =
-      subst (λ l. HasExtended dp k step s value l live old_row old_ways row2 ways2 folds2 heads2 next2) (sym (ap below (add-one n)))
-      (extended-both (below n) (n ∷ []) old_row row row2 old_ways ways ways2 folds heads next folds2 heads2 next2 g h)
+  pub extended-next : (n : ℕ) (old_row row row2 : ℕ → List ℤ) (old_ways ways ways2 : List Way) (hashes heads next hashes2 heads2 next2 : List ℕ)
+      → HasExtended dp k step s value (below n) live old_row old_ways row ways hashes heads next → HasExtended dp k step s value (n ∷ []) live row ways row2 ways2 hashes2 heads2 next2
+      → HasExtended dp k step s value (below (n + 1)) live old_row old_ways row2 ways2 hashes2 heads2 next2
+  extended-next n old_row row row2 old_ways ways ways2 hashes heads next hashes2 heads2 next2 g h =
+      subst (λ l. HasExtended dp k step s value l live old_row old_ways row2 ways2 hashes2 heads2 next2) (sym (ap below (add-one n)))
+      (extended-both (below n) (n ∷ []) old_row row row2 old_ways ways ways2 hashes heads next hashes2 heads2 next2 g h)
 
 -- Decisions that are stepped over.
 
@@ -219,9 +219,9 @@ allowed-skipped dp k s from (suc to) on skipped =
           ∙ (append-nil (all_allowed dp k s (below to)) ∙ allowed-skipped dp k s from to (omega arith) (λ d a b. skipped d a (omega arith))))
     ]
 
-pub extended-skipped : (dp : Dp) (k step : ℕ) (s : List ℤ) (value : ℤ) (live from to : ℕ) (old_row row : ℕ → List ℤ) (old_ways ways : List Way) (folds heads next : List ℕ) → from ≤ to → AreSkipped dp k s from to
-    → HasExtended dp k step s value (below from) live old_row old_ways row ways folds heads next → HasExtended dp k step s value (below to) live old_row old_ways row ways folds heads next
-extended-skipped dp k step s value live from to old_row row old_ways ways folds heads next on skipped h =
+pub extended-skipped : (dp : Dp) (k step : ℕ) (s : List ℤ) (value : ℤ) (live from to : ℕ) (old_row row : ℕ → List ℤ) (old_ways ways : List Way) (hashes heads next : List ℕ) → from ≤ to → AreSkipped dp k s from to
+    → HasExtended dp k step s value (below from) live old_row old_ways row ways hashes heads next → HasExtended dp k step s value (below to) live old_row old_ways row ways hashes heads next
+extended-skipped dp k step s value live from to old_row row old_ways ways hashes heads next on skipped h =
     let few = h.few in let one = length-below from in let two = length-below to in
     record {
       joined = h.joined;
@@ -232,28 +232,28 @@ extended-skipped dp k step s value live from to old_row row old_ways ways folds 
 -- A parent's decisions, one after another.
 
 -- its ways by those below n were taken in, and the region has their rows, and the row at the spot
-pub record IsExtending (dp : Dp) (k step : ℕ) (s : List ℤ) (value : ℤ) (live n : ℕ) (old : RegionView) (old_spot : ℕ) (old_ways : List Way) (region : RegionView) (spot : ℕ) (ways : List Way) (folds heads next : List ℕ) : Type 0 where
-  pub extended : HasExtended dp k step s value (below n) live (way_row old old_ways) old_ways (way_row region ways) ways folds heads next
+pub record IsExtending (dp : Dp) (k step : ℕ) (s : List ℤ) (value : ℤ) (live n : ℕ) (old : RegionView) (old_spot : ℕ) (old_ways : List Way) (region : RegionView) (spot : ℕ) (ways : List Way) (hashes heads next : List ℕ) : Type 0 where
+  pub extended : HasExtended dp k step s value (below n) live (way_row old old_ways) old_ways (way_row region ways) ways hashes heads next
   pub exchanged : HasExchanged old (old_spot ∷ rows_of old_ways) region (spot ∷ rows_of ways)
 
 module _ (dp : Dp) (k step : ℕ) (s : List ℤ) (value : ℤ) (live : ℕ) (old : RegionView) (old_spot : ℕ) (old_ways : List Way) where
   -- up to the first one that is not stepped over
-  pub extending-first : (to : ℕ) (folds heads next : List ℕ) → 0 ≤ to → AreSkipped dp k s 0 to → AreLive old (old_spot ∷ rows_of old_ways) → AreJoined dp (k + 1) (way_row old old_ways) live old_ways folds heads next
-      → IsExtending dp k step s value live to old old_spot old_ways old old_spot old_ways folds heads next
-  extending-first to folds heads next on skipped held joined = record {
-    extended = extended-skipped dp k step s value live 0 to (way_row old old_ways) (way_row old old_ways) old_ways old_ways folds heads next on skipped
-        (extended-none dp k step s value live (way_row old old_ways) old_ways folds heads next joined);
+  pub extending-first : (to : ℕ) (hashes heads next : List ℕ) → 0 ≤ to → AreSkipped dp k s 0 to → AreLive old (old_spot ∷ rows_of old_ways) → AreJoined dp (k + 1) (way_row old old_ways) live old_ways hashes heads next
+      → IsExtending dp k step s value live to old old_spot old_ways old old_spot old_ways hashes heads next
+  extending-first to hashes heads next on skipped held joined = record {
+    extended = extended-skipped dp k step s value live 0 to (way_row old old_ways) (way_row old old_ways) old_ways old_ways hashes heads next on skipped
+        (extended-none dp k step s value live (way_row old old_ways) old_ways hashes heads next joined);
     exchanged = exchange-self old (old_spot ∷ rows_of old_ways) held;
   }
 
-  module _ (n : ℕ) (region : RegionView) (spot : ℕ) (ways : List Way) (folds heads next : List ℕ) (h : IsExtending dp k step s value live n old old_spot old_ways region spot ways folds heads next) where
+  module _ (n : ℕ) (region : RegionView) (spot : ℕ) (ways : List Way) (hashes heads next : List ℕ) (h : IsExtending dp k step s value live n old old_spot old_ways region spot ways hashes heads next) where
     -- n, and up to the next one
-    pub extending-more : (to : ℕ) (new : RegionView) (spot2 : ℕ) (ways2 : List Way) (folds2 heads2 next2 : List ℕ) → n + 1 ≤ to → AreSkipped dp k s (n + 1) to
-        → HasExtended dp k step s value (n ∷ []) live (way_row region ways) ways (way_row new ways2) ways2 folds2 heads2 next2 → HasExchanged region (spot ∷ rows_of ways) new (spot2 ∷ rows_of ways2)
-        → IsExtending dp k step s value live to old old_spot old_ways new spot2 ways2 folds2 heads2 next2
-    extending-more to new spot2 ways2 folds2 heads2 next2 on skipped one x = record {
-      extended = extended-skipped dp k step s value live (n + 1) to (way_row old old_ways) (way_row new ways2) old_ways ways2 folds2 heads2 next2 on skipped
-          (extended-next dp k step s value live n (way_row old old_ways) (way_row region ways) (way_row new ways2) old_ways ways ways2 folds heads next folds2 heads2 next2 h.extended one);
+    pub extending-more : (to : ℕ) (new : RegionView) (spot2 : ℕ) (ways2 : List Way) (hashes2 heads2 next2 : List ℕ) → n + 1 ≤ to → AreSkipped dp k s (n + 1) to
+        → HasExtended dp k step s value (n ∷ []) live (way_row region ways) ways (way_row new ways2) ways2 hashes2 heads2 next2 → HasExchanged region (spot ∷ rows_of ways) new (spot2 ∷ rows_of ways2)
+        → IsExtending dp k step s value live to old old_spot old_ways new spot2 ways2 hashes2 heads2 next2
+    extending-more to new spot2 ways2 hashes2 heads2 next2 on skipped one x = record {
+      extended = extended-skipped dp k step s value live (n + 1) to (way_row old old_ways) (way_row new ways2) old_ways ways2 hashes2 heads2 next2 on skipped
+          (extended-next dp k step s value live n (way_row old old_ways) (way_row region ways) (way_row new ways2) old_ways ways ways2 hashes heads next hashes2 heads2 next2 h.extended one);
       exchanged = exchange-then old region new (old_spot ∷ rows_of old_ways) (spot ∷ rows_of ways) (spot2 ∷ rows_of ways2) h.exchanged x;
     }
 
@@ -274,10 +274,10 @@ module _ (dp : Dp) (k step : ℕ) (s : List ℤ) (value : ℤ) (live : ℕ) (old
         omega arith
 
     -- all of them
-    pub extending-all : n ≤ dp.choices k → ¬ (n < dp.choices k) → HasExtended dp k step s value (below (dp.choices k)) live (way_row old old_ways) old_ways (way_row region ways) ways folds heads next
+    pub extending-all : n ≤ dp.choices k → ¬ (n < dp.choices k) → HasExtended dp k step s value (below (dp.choices k)) live (way_row old old_ways) old_ways (way_row region ways) ways hashes heads next
     extending-all within past =
         let all : n ≡ dp.choices k = omega arith in
-        subst (λ (m : ℕ). HasExtended dp k step s value (below m) live (way_row old old_ways) old_ways (way_row region ways) ways folds heads next) all h.extended
+        subst (λ (m : ℕ). HasExtended dp k step s value (below m) live (way_row old old_ways) old_ways (way_row region ways) ways hashes heads next) all h.extended
 
 -- Members.
 
@@ -316,12 +316,12 @@ moved-at dp k old region new members i spot ways s all less x same is given =
     moved old region new (member_rows members) (get_or members i no_member) (drop (i + 1) members) spot ways s (each-here (IsMemberOf dp k old) members i no_member all less).held.live
     (subst (λ ps. HasExchanged old (member_rows members) region (ps ++ spot ∷ rows_of ways)) next x) (subst (AreSame old region) next same) is given
 
-pub members-start : (dp : Dp) (k : ℕ) (above : RegionView) (live : ℕ) (members : List Member) (row : ℕ → List ℤ) (folds next : List ℕ) (size : ℕ) → IsPowerOfTwo size
-    → AreExtended dp k 0 above live members row [] folds (replicate size 0) next
-members-start dp k above live members row folds next size power = record {
+pub members-start : (dp : Dp) (k : ℕ) (above : RegionView) (live : ℕ) (members : List Member) (row : ℕ → List ℤ) (hashes next : List ℕ) (size : ℕ) → IsPowerOfTwo size
+    → AreExtended dp k 0 above live members row [] hashes (replicate size 0) next
+members-start dp k above live members row hashes next size power = record {
   joined = record {
     table = record {
-      folds_size = omega arith;
+      hashes_size = omega arith;
       next_size = omega arith;
       slots = subst IsPowerOfTwo (sym (length-replicate {A = ℕ} size 0)) power;
       heads_are = λ slot less. get_or-replicate size slot 0 0 (let e : length (replicate {A = ℕ} size 0) ≡ size = length-replicate size 0 in omega arith);
@@ -336,10 +336,10 @@ members-start dp k above live members row folds next size power = record {
 }
 
 -- where the rows of the ways stay
-pub extended-same-rows : (dp : Dp) (k i : ℕ) (above : RegionView) (live : ℕ) (members : List Member) (row row2 : ℕ → List ℤ) (ways : List Way) (folds heads next : List ℕ) → ((j : ℕ) → j < length ways → row2 j ≡ row j)
-    → AreExtended dp k i above live members row ways folds heads next → AreExtended dp k i above live members row2 ways folds heads next
-extended-same-rows dp k i above live members row row2 ways folds heads next same h = record {
-  joined = joined-same row row2 ways same dp (k + 1) live folds heads next h.joined;
+pub extended-same-rows : (dp : Dp) (k i : ℕ) (above : RegionView) (live : ℕ) (members : List Member) (row row2 : ℕ → List ℤ) (ways : List Way) (hashes heads next : List ℕ) → ((j : ℕ) → j < length ways → row2 j ≡ row j)
+    → AreExtended dp k i above live members row ways hashes heads next → AreExtended dp k i above live members row2 ways hashes heads next
+extended-same-rows dp k i above live members row row2 ways hashes heads next same h = record {
+  joined = joined-same row row2 ways same dp (k + 1) live hashes heads next h.joined;
   list = λ paths. ap (λ l. all_joined l (candidates dp k (drop i (members_as paths above members)))) (reached-same row row2 ways same paths) ∙ h.list paths;
   few = h.few;
 }
@@ -361,11 +361,11 @@ drop-members paths above members i d less =
     let f = member_as paths above in
     drop-map f i members ∙ (ap (map f) (drop_more members i d less) ∙ ap (λ l. f (get_or members i d) ∷ l) (sym (drop-map f (i + 1) members)))
 
-pub members-more : (dp : Dp) (k i : ℕ) (above : RegionView) (live : ℕ) (members : List Member) (d : Member) (s : List ℤ) (row row2 : ℕ → List ℤ) (ways ways2 : List Way) (folds heads next folds2 heads2 next2 : List ℕ)
-    → AreExtended dp k i above live members row ways folds heads next → i < length members → s ≡ held_row above (get_or members i d).row
-    → HasExtended dp k (get_or members i d).step s (get_or members i d).value (below (dp.choices k)) live row ways row2 ways2 folds2 heads2 next2
-    → AreExtended dp k (i + 1) above live members row2 ways2 folds2 heads2 next2
-members-more dp k i above live members d s row row2 ways ways2 folds heads next folds2 heads2 next2 h less is e =
+pub members-more : (dp : Dp) (k i : ℕ) (above : RegionView) (live : ℕ) (members : List Member) (d : Member) (s : List ℤ) (row row2 : ℕ → List ℤ) (ways ways2 : List Way) (hashes heads next hashes2 heads2 next2 : List ℕ)
+    → AreExtended dp k i above live members row ways hashes heads next → i < length members → s ≡ held_row above (get_or members i d).row
+    → HasExtended dp k (get_or members i d).step s (get_or members i d).value (below (dp.choices k)) live row ways row2 ways2 hashes2 heads2 next2
+    → AreExtended dp k (i + 1) above live members row2 ways2 hashes2 heads2 next2
+members-more dp k i above live members d s row row2 ways ways2 hashes heads next hashes2 heads2 next2 h less is e =
     let m = get_or members i d in
     let low = h.few in let more = e.few in let all = length-below (dp.choices k) in
     record {
@@ -381,10 +381,10 @@ members-more dp k i above live members d s row row2 ways ways2 folds heads next 
       few = omega arith;
     }
 
-pub members-all : (dp : Dp) (k i : ℕ) (above : RegionView) (live : ℕ) (members : List Member) (row : ℕ → List ℤ) (ways : List Way) (folds heads next : List ℕ)
-    → AreExtended dp k i above live members row ways folds heads next → i ≡ length members
+pub members-all : (dp : Dp) (k i : ℕ) (above : RegionView) (live : ℕ) (members : List Member) (row : ℕ → List ℤ) (ways : List Way) (hashes heads next : List ℕ)
+    → AreExtended dp k i above live members row ways hashes heads next → i ≡ length members
     → (paths : ℕ → List ℕ) → all_reached paths row ways ≡ all_joined [] (candidates dp k (members_as paths above members))
-members-all dp k i above live members row ways folds heads next h whole paths =
+members-all dp k i above live members row ways hashes heads next h whole paths =
     let L = members_as paths above members in
     let none : drop i L ≡ [] = drop_all i L (let e = length-map members (member_as paths above) in omega arith) in
     ap (λ l. all_joined (all_reached paths row ways) (candidates dp k l)) (sym none) ∙ h.list paths

@@ -110,17 +110,17 @@ module _ (row row2 : ℕ → List ℤ) (ways : List Way) (same : (i : ℕ) → i
   pub reached-same : (paths : ℕ → List ℕ) → all_reached paths row2 ways ≡ all_reached paths row ways
   reached-same paths = table_same (reached_at paths row ways) (reached_at paths row2 ways) (length ways) (λ i less. ap (λ r. reached_by paths r (way_at ways i)) (same i less))
 
-  pub table-same : (live : ℕ) (folds heads next : List ℕ) → IsTable row live (length ways) folds heads next → IsTable row2 live (length ways) folds heads next
-  table-same live folds heads next t = record {
-    folds_size = t.folds_size;
+  pub table-same : (live : ℕ) (hashes heads next : List ℕ) → IsTable row live (length ways) hashes heads next → IsTable row2 live (length ways) hashes heads next
+  table-same live hashes heads next t = record {
+    hashes_size = t.hashes_size;
     next_size = t.next_size;
     slots = t.slots;
     heads_are = t.heads_are;
     next_are = t.next_are;
   }
 
-  pub hashed-same : (dp : Dp) (k : ℕ) (folds : List ℕ) → AreHashed dp k row (length ways) folds → AreHashed dp k row2 (length ways) folds
-  hashed-same dp k folds hashed i less = hashed i less ∙ ap (dp.hash k) (sym (same i less))
+  pub hashed-same : (dp : Dp) (k : ℕ) (hashes : List ℕ) → AreHashed dp k row (length ways) hashes → AreHashed dp k row2 (length ways) hashes
+  hashed-same dp k hashes hashed i less = hashed i less ∙ ap (dp.hash k) (sym (same i less))
 
   pub apart-same : AreDistinctRows row (length ways) → AreDistinctRows row2 (length ways)
   apart-same apart a b less within e = apart a b less within (sym (same a (omega arith)) ∙ (e ∙ same b within))
@@ -128,8 +128,8 @@ module _ (row row2 : ℕ → List ℤ) (ways : List Way) (same : (i : ℕ) → i
   pub good-same : (dp : Dp) (k : ℕ) → AreWays dp k row ways → AreWays dp k row2 ways
   good-same dp k good i less = subst (λ r. IsWay dp k r (way_at ways i)) (sym (same i less)) (good i less)
 
-  pub joined-same : (dp : Dp) (k live : ℕ) (folds heads next : List ℕ) → AreJoined dp k row live ways folds heads next → AreJoined dp k row2 live ways folds heads next
-  joined-same dp k live folds heads next j = record { table = table-same live folds heads next j.table; hashed = hashed-same dp k folds j.hashed; apart = apart-same j.apart; good = good-same dp k j.good }
+  pub joined-same : (dp : Dp) (k live : ℕ) (hashes heads next : List ℕ) → AreJoined dp k row live ways hashes heads next → AreJoined dp k row2 live ways hashes heads next
+  joined-same dp k live hashes heads next j = record { table = table-same live hashes heads next j.table; hashed = hashed-same dp k hashes j.hashed; apart = apart-same j.apart; good = good-same dp k j.good }
 
 -- A way that is new.
 
@@ -258,25 +258,25 @@ module _ (region : RegionView) (ways : List Way) (way : Way) where
   pushed-none : (live : ℕ) → ((k : ℕ) → k < length ways → live_at old_row live k ≢ drop live (held_row region way.row)) → (k : ℕ) → k < length ways → new_row k ≢ new_row (length ways)
   pushed-none live none k less e = none k less (ap (drop live) (sym (pushed-before k less) ∙ (e ∙ pushed-here)))
 
-  pushed-hashed : (dp : Dp) (k hash : ℕ) (folds folds2 : List ℕ) → length ways < length folds → folds2 ≡ set folds (length ways) hash → hash ≡ dp.hash k (held_row region way.row)
-      → AreHashed dp k new_row (length ways) folds → AreHashed dp k new_row (length ways + 1) folds2
-  pushed-hashed dp k hash folds folds2 room is hash_is hashed i less = go (last_or i (length ways) (omega arith))
+  pushed-hashed : (dp : Dp) (k hash : ℕ) (hashes hashes2 : List ℕ) → length ways < length hashes → hashes2 ≡ set hashes (length ways) hash → hash ≡ dp.hash k (held_row region way.row)
+      → AreHashed dp k new_row (length ways) hashes → AreHashed dp k new_row (length ways + 1) hashes2
+  pushed-hashed dp k hash hashes hashes2 room is hash_is hashed i less = go (last_or i (length ways) (omega arith))
     where
-      go : (i ≡ length ways) ⊎ (i < length ways) → get_or folds2 i 0 ≡ dp.hash k (new_row i)
-      go (inl e) = ap₂ (λ (l : List ℕ) (j : ℕ). get_or l j 0) is e ∙ (get_or-set_same folds (length ways) hash 0 room ∙ (hash_is ∙ (ap (dp.hash k) (sym pushed-here) ∙ ap (λ (j : ℕ). dp.hash k (new_row j)) (sym e))))
-      go (inr l) = ap (λ (fs : List ℕ). get_or fs i 0) is ∙ (get_or-set_other folds (length ways) i hash 0 (λ e. omega arith) ∙ hashed i l)
+      go : (i ≡ length ways) ⊎ (i < length ways) → get_or hashes2 i 0 ≡ dp.hash k (new_row i)
+      go (inl e) = ap₂ (λ (l : List ℕ) (j : ℕ). get_or l j 0) is e ∙ (get_or-set_same hashes (length ways) hash 0 room ∙ (hash_is ∙ (ap (dp.hash k) (sym pushed-here) ∙ ap (λ (j : ℕ). dp.hash k (new_row j)) (sym e))))
+      go (inr l) = ap (λ (fs : List ℕ). get_or fs i 0) is ∙ (get_or-set_other hashes (length ways) i hash 0 (λ e. omega arith) ∙ hashed i l)
 
   -- a way whose state is new goes after the others
-  pub pushed-joined : (dp : Dp) (k live : ℕ) (folds heads next folds2 heads2 next2 : List ℕ) → length ways < length folds → folds2 ≡ set folds (length ways) way.hash → ((k : ℕ) → k < length ways → live_at old_row live k ≢ drop live (held_row region way.row))
-      → AreJoined dp k old_row live ways folds heads next → IsWay dp k (held_row region way.row) way
-      → (IsTable new_row live (length ways) folds heads next → IsTable new_row live (length ways + 1) folds2 heads2 next2)
-      → AreJoined dp k new_row live (ways ++ way ∷ []) folds2 heads2 next2
-  pushed-joined dp k live folds heads next folds2 heads2 next2 room is none j one put =
+  pub pushed-joined : (dp : Dp) (k live : ℕ) (hashes heads next hashes2 heads2 next2 : List ℕ) → length ways < length hashes → hashes2 ≡ set hashes (length ways) way.hash → ((k : ℕ) → k < length ways → live_at old_row live k ≢ drop live (held_row region way.row))
+      → AreJoined dp k old_row live ways hashes heads next → IsWay dp k (held_row region way.row) way
+      → (IsTable new_row live (length ways) hashes heads next → IsTable new_row live (length ways + 1) hashes2 heads2 next2)
+      → AreJoined dp k new_row live (ways ++ way ∷ []) hashes2 heads2 next2
+  pushed-joined dp k live hashes heads next hashes2 heads2 next2 room is none j one put =
       let longer : length (ways ++ way ∷ []) ≡ length ways + 1 = length_push ways way in
-      let was = joined-same old_row new_row ways pushed-before dp k live folds heads next j in
+      let was = joined-same old_row new_row ways pushed-before dp k live hashes heads next j in
       record {
-        table = subst (λ (n : ℕ). IsTable new_row live n folds2 heads2 next2) (sym longer) (put was.table);
-        hashed = subst (λ (n : ℕ). AreHashed dp k new_row n folds2) (sym longer) (pushed-hashed dp k way.hash folds folds2 room is one.hash was.hashed);
+        table = subst (λ (n : ℕ). IsTable new_row live n hashes2 heads2 next2) (sym longer) (put was.table);
+        hashed = subst (λ (n : ℕ). AreHashed dp k new_row n hashes2) (sym longer) (pushed-hashed dp k way.hash hashes hashes2 room is one.hash was.hashed);
         apart = subst (AreDistinctRows new_row) (sym (longer ∙ add-one (length ways))) (pushed_apart new_row ways way was.apart (pushed-none live none));
         good = pushed_ways new_row ways way dp k was.good (subst (λ r. IsWay dp k r way) (sym pushed-here) one);
       }
@@ -298,13 +298,13 @@ module _ (region : RegionView) (ways : List Way) (way : Way) where
     stays : (i : ℕ) → i < length (bettered ways place way) → better_row i ≡ old_row i
     stays i within = bettered-before i (let e = length-bettered old_row ways way (held_row region way.row) place in omega arith)
 
-    pub bettered-joined : (dp : Dp) (k live : ℕ) (folds heads next : List ℕ) → AreJoined dp k old_row live ways folds heads next → IsWay dp k (held_row region way.row) way
-        → AreJoined dp k better_row live (bettered ways place way) folds heads next
-    bettered-joined dp k live folds heads next j one =
+    pub bettered-joined : (dp : Dp) (k live : ℕ) (hashes heads next : List ℕ) → AreJoined dp k old_row live ways hashes heads next → IsWay dp k (held_row region way.row) way
+        → AreJoined dp k better_row live (bettered ways place way) hashes heads next
+    bettered-joined dp k live hashes heads next j one =
         let count = length-bettered old_row ways way (held_row region way.row) place in
-        joined-same old_row better_row (bettered ways place way) stays dp k live folds heads next (record {
-          table = subst (λ (n : ℕ). IsTable old_row live n folds heads next) (sym count) j.table;
-          hashed = subst (λ (n : ℕ). AreHashed dp k old_row n folds) (sym count) j.hashed;
+        joined-same old_row better_row (bettered ways place way) stays dp k live hashes heads next (record {
+          table = subst (λ (n : ℕ). IsTable old_row live n hashes heads next) (sym count) j.table;
+          hashed = subst (λ (n : ℕ). AreHashed dp k old_row n hashes) (sym count) j.hashed;
           apart = subst (AreDistinctRows old_row) (sym count) j.apart;
           good = bettered_ways old_row ways way (held_row region way.row) dp k place less same j.good one;
         })

@@ -14,13 +14,13 @@ pub record HasSlots (t : WayTable) : Type 0 where
 
 -- there is memory for this many ways and for the slots
 pub record HasTableRoom (count : ℕ) (t : WayTable) : Type 0 where
-  pub ways : HasWayRoom count (vec_capacity t.ways) t.folds.items t.next.items
+  pub ways : HasWayRoom count (vec_capacity t.ways) t.hashes.items t.next.items
   pub slots : HasSlots t
 
 -- the room stays
 pub record KeepsTableRoom (old new : WayTable) : Type 0 where
   pub ways : vec_capacity new.ways ≡ vec_capacity old.ways
-  pub folds : length new.folds.items ≡ length old.folds.items
+  pub hashes : length new.hashes.items ≡ length old.hashes.items
   pub next : length new.next.items ≡ length old.next.items
   pub slots : new.slots ≡ old.slots
   pub heads : vec_capacity old.heads ≤ vec_capacity new.heads
@@ -33,12 +33,12 @@ pub record HasNoWays (t : WayTable) : Type 0 where
 
 -- its ways lead to different states of the layer at depth k, whose rows the region has, and it finds each of them
 abbrev pub IsWayTable : Dp → ℕ → RegionView → WayTable → Type 0
-IsWayTable dp k region t = AreJoined dp k (way_row region t.ways.items) t.live t.ways.items t.folds.items t.heads.items t.next.items
+IsWayTable dp k region t = AreJoined dp k (way_row region t.ways.items) t.live t.ways.items t.hashes.items t.heads.items t.next.items
 
 -- a parent's ways by those of the decisions that are allowed were taken in
 abbrev pub TookIn : Dp → ℕ → ℕ → List ℤ → ℤ → List ℕ → RegionView → WayTable → RegionView → WayTable → Type 0
 TookIn dp k step s value decisions before old region new =
-    HasExtended dp k step s value decisions old.live (way_row before old.ways.items) old.ways.items (way_row region new.ways.items) new.ways.items new.folds.items new.heads.items new.next.items
+    HasExtended dp k step s value decisions old.live (way_row before old.ways.items) old.ways.items (way_row region new.ways.items) new.ways.items new.hashes.items new.heads.items new.next.items
 
 -- the places of the rows of its ways' states
 abbrev pub table_rows : WayTable → List ℕ

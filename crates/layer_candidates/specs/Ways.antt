@@ -77,13 +77,13 @@ pub record AreDistinct (dp : Dp) (k : ℕ) (row : ℕ → List ℤ) (ways : List
   pub apart : AreDistinctRows row (length ways)
   pub good : AreWays dp k row ways
 
--- the folds are the hashes of the states
+-- the hashes are the hashes of the states
 abbrev pub AreHashed : Dp → ℕ → (ℕ → List ℤ) → ℕ → List ℕ → Type 0
-AreHashed dp k row count folds = (i : ℕ) → i < count → slice_index_or folds i 0 ≡ dp.hash k (row i)
+AreHashed dp k row count hashes = (i : ℕ) → i < count → slice_index_or hashes i 0 ≡ dp.hash k (row i)
 
 -- the ways lead to different states, which the table has
-pub record AreJoined (dp : Dp) (k : ℕ) (row : ℕ → List ℤ) (live : ℕ) (ways : List Way) (folds heads next : List ℕ) : Type 0 where
-  pub table : IsTable row live (length ways) folds heads next
-  pub hashed : AreHashed dp k row (length ways) folds
+pub record AreJoined (dp : Dp) (k : ℕ) (row : ℕ → List ℤ) (live : ℕ) (ways : List Way) (hashes heads next : List ℕ) : Type 0 where
+  pub table : IsTable row live (length ways) hashes heads next
+  pub hashed : AreHashed dp k row (length ways) hashes
   pub apart : AreDistinctRows row (length ways)
   pub good : AreWays dp k row ways

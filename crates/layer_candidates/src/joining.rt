@@ -6,7 +6,7 @@ ghost use Rattle.dp_model.specs.Lists.{Each};
 ghost use Rattle.dp_laws.specs.Restricted.Extensions.{joined};
 ghost use Rattle.layer_candidates.specs.HeldRows.{held_row};
 ghost use Rattle.layer_candidates.specs.Rows.{HasZeros};
-ghost use Rattle.layer_candidates.specs.Table.{HaveFold, IsTable, IsPlaced};
+ghost use Rattle.layer_candidates.specs.Table.{HaveHash, IsTable, IsPlaced};
 ghost use Rattle.layer_candidates.specs.Ways.{bettered, reached_by, rows_of, way_row, all_reached, IsWay, AreDistinctRows};
 ghost use Rattle.layer_candidates.specs.WayTables.{IsWayTable, HasTableRoom, KeepsTableRoom};
 ghost use Rattle.row_region.specs.Region.{IsLive};
@@ -21,12 +21,12 @@ impl WayTable {
     /// state has, and otherwise it is kept after the others. Answers the place of the state's way.
     #[inline(always)]
     pub fn take_in(&mut self, region: &Region, way: Way) -> usize
-        requires table { IsTable (way_row region.now self.old.ways.items) self.old.live (length self.old.ways.items) self.old.folds.items self.old.heads.items self.old.next.items }
+        requires table { IsTable (way_row region.now self.old.ways.items) self.old.live (length self.old.ways.items) self.old.hashes.items self.old.heads.items self.old.next.items }
         requires held { Each (IsLive region.now) (way.row ∷ rows_of self.old.ways.items) }
         requires live { self.old.live ≤ region.now.words }
         requires zeros { (i : ℕ) → i < length self.old.ways.items → HasZeros self.old.live (way_row region.now self.old.ways.items i) }
         requires new_zeros { HasZeros self.old.live (held_row region.now way.row) }
-        requires hash { HaveFold (way_row region.now self.old.ways.items) self.old.live (length self.old.ways.items) (drop self.old.live (held_row region.now way.row)) way.hash self.old.folds.items }
+        requires hash { HaveHash (way_row region.now self.old.ways.items) self.old.live (length self.old.ways.items) (drop self.old.live (held_row region.now way.row)) way.hash self.old.hashes.items }
         requires room { HasTableRoom (length self.old.ways.items + 1) self.old }
         ensures joined { (dp : Dp) (k : ℕ) → IsWayTable dp k region.now self.old → IsWay dp k (held_row region.now way.row) way → IsWayTable dp k region.now self.new }
         ensures list { (paths : ℕ → List ℕ) → AreDistinctRows (way_row region.now self.old.ways.items) (length self.old.ways.items) → all_reached paths (way_row region.now self.new.ways.items) self.new.ways.items ≡ joined (all_reached paths (way_row region.now self.old.ways.items) self.old.ways.items) (reached_by paths (held_row region.now way.row) way) }

@@ -4,14 +4,14 @@ ghost use Rattle.std.specs.Int.{IsPowerOfTwo};
 ghost use Rattle.std.specs.Prelude.{◌≡◌, ℕ, ◌+◌, ◌^◌, ◌<◌, ◌≤◌, ℤ, List, ◌↔◌, length, vec_len, slice_index_or, slice_set, IfOk, IsTrue};
 ghost use Rattle.dp_model.specs.Lists.{Each};
 ghost use Rattle.layer_candidates.specs.Rows.{live_at};
-ghost use Rattle.layer_candidates.specs.Table.{slot_of, HaveFold, IsTable, IsRowFound};
+ghost use Rattle.layer_candidates.specs.Table.{slot_of, HaveHash, IsTable, IsRowFound};
 ghost use Rattle.layer_candidates.specs.Ways.{rows_of, way_row};
 ghost use Rattle.layer_candidates.specs.WayTables.{HasTableRoom, HasSlots, HasNoWays, KeepsTableRoom};
 ghost use Rattle.row_region.specs.Region.{IsLive};
 
 use crate::rows::{live_cells_of, same_row};
 use crate::way::Way;
-use dp_model::OutOfMemory;
+use dp_model::{OutOfMemory, spread};
 use row_region::Region;
 use std::alloc::Global;
 
@@ -26,24 +26,21 @@ pub struct WayTable {
     // the most slots, a power of two
     pub(crate) slots: usize,
     // the hash of each row
-    pub(crate) folds: Vec<u64>,
+    pub(crate) hashes: Vec<u64>,
     // for each slot one more than the place of its last row, or zero
     pub(crate) heads: Vec<u32>,
     // for each row one more than the place of the row before it in its slot, or zero
     pub(crate) next: Vec<u32>,
 }
 
-// 2^64 divided by the golden ratio, made odd.
-const FACTOR: u64 = 0x9e37_79b9_7f4a_7c15;
-
-/// The slot of a fold, of a number of slots that is a power of two. Folds may differ in any of their bits, and a product spreads these.
-fn slot(fold: u64, size: usize) -> usize
+/// The slot of a hash, of a number of slots that is a power of two. Hashes may differ in any of their bits, and a product spreads these.
+fn slot(hash: u64, size: usize) -> usize
     requires { IsPowerOfTwo size }
-    ensures slot { result ≡ slot_of fold size }
+    ensures slot { result ≡ slot_of hash size }
     ensures within { result < size }
 {
-    let halves = fold ^ (fold >> 32);
-    (halves.wrapping_mul(FACTOR) >> 32) as usize & (size - 1)
+    let halves = hash ^ (hash >> 32);
+    (spread(halves) >> 32) as usize & (size - 1)
 }
 
 /// The number of slots that serves for a number of rows: a power of two, at most `slots`. It is no less than the rows, unless
@@ -68,7 +65,7 @@ impl WayTable {
             ways: Vec::with_capacity(alloc, room)?,
             live: 0,
             slots,
-            folds: vec![in alloc; 0u64; room]?,
+            hashes: vec![in alloc; 0u64; room]?,
             heads: Vec::with_capacity(alloc, slots)?,
             next: vec![in alloc; 0u32; room]?,
         })
@@ -91,30 +88,30 @@ impl WayTable {
 
     /// Whether the row of the way at the place has these live cells.
     #[inline(always)]
-    fn is_at(&self, region: &Region, place: usize, new: &[i64], fold: u64) -> bool
-        requires within { place < length self.now.folds.items }
+    fn is_at(&self, region: &Region, place: usize, new: &[i64], hash: u64) -> bool
+        requires within { place < length self.now.hashes.items }
         requires way { place < length self.now.ways.items }
         requires held { Each (IsLive region.now) (rows_of self.now.ways.items) }
         requires live { self.now.live ≤ region.now.words }
-        requires fold { live_at (way_row region.now self.now.ways.items) self.now.live place ≡ new.now → slice_index_or self.now.folds.items place 0 ≡ fold }
+        requires hash { live_at (way_row region.now self.now.ways.items) self.now.live place ≡ new.now → slice_index_or self.now.hashes.items place 0 ≡ hash }
         ensures { IsTrue result ↔ (live_at (way_row region.now self.now.ways.items) self.now.live place ≡ new.now) }
     {
-        self.folds[place] == fold
+        self.hashes[place] == hash
             && same_row(live_cells_of(region, self.live, self.ways[place].row), new)
     }
 
     /// The place of the way whose row has these live cells, or the number of ways.
-    pub(crate) fn find(&self, region: &Region, new: &[i64], fold: u64) -> usize
-        requires table { IsTable (way_row region.now self.now.ways.items) self.now.live (length self.now.ways.items) self.now.folds.items self.now.heads.items self.now.next.items }
+    pub(crate) fn find(&self, region: &Region, new: &[i64], hash: u64) -> usize
+        requires table { IsTable (way_row region.now self.now.ways.items) self.now.live (length self.now.ways.items) self.now.hashes.items self.now.heads.items self.now.next.items }
         requires held { Each (IsLive region.now) (rows_of self.now.ways.items) }
         requires live { self.now.live ≤ region.now.words }
-        requires fold { HaveFold (way_row region.now self.now.ways.items) self.now.live (length self.now.ways.items) new.now fold self.now.folds.items }
+        requires hash { HaveHash (way_row region.now self.now.ways.items) self.now.live (length self.now.ways.items) new.now hash self.now.hashes.items }
         ensures { IsRowFound (way_row region.now self.now.ways.items) self.now.live (length self.now.ways.items) new.now result }
     {
-        let mut i = self.heads[slot(fold, self.heads.len())] as usize;
+        let mut i = self.heads[slot(hash, self.heads.len())] as usize;
         'chain: while i > 0 {
             let k = i - 1;
-            if self.is_at(region, k, new, fold) {
+            if self.is_at(region, k, new, hash) {
                 return k;
             }
             i = self.next[k] as usize;
@@ -122,22 +119,22 @@ impl WayTable {
         self.ways.len()
     }
 
-    /// Enters the row of the next way, with its fold. The way itself is to be put in afterwards.
-    pub(crate) fn enter(&mut self, fold: u64)
+    /// Enters the row of the next way, with its hash. The way itself is to be put in afterwards.
+    pub(crate) fn enter(&mut self, hash: u64)
         requires small { length self.old.ways.items + 1 < 2 ^ 32 }
-        requires folds { length self.old.ways.items < length self.old.folds.items }
+        requires hashes { length self.old.ways.items < length self.old.hashes.items }
         requires next { length self.old.ways.items < length self.old.next.items }
         requires heads { IsPowerOfTwo (length self.old.heads.items) }
-        ensures table { (row : ℕ → List ℤ) (live : ℕ) → IsTable row live (length self.old.ways.items) self.old.folds.items self.old.heads.items self.old.next.items
-            → IsTable row live (length self.old.ways.items + 1) self.new.folds.items self.new.heads.items self.new.next.items }
-        ensures folds { self.new.folds.items ≡ slice_set self.old.folds.items (length self.old.ways.items) fold }
+        ensures table { (row : ℕ → List ℤ) (live : ℕ) → IsTable row live (length self.old.ways.items) self.old.hashes.items self.old.heads.items self.old.next.items
+            → IsTable row live (length self.old.ways.items + 1) self.new.hashes.items self.new.heads.items self.new.next.items }
+        ensures hashes { self.new.hashes.items ≡ slice_set self.old.hashes.items (length self.old.ways.items) hash }
         ensures ways { self.new.ways ≡ self.old.ways }
         ensures live { self.new.live ≡ self.old.live }
         ensures room { KeepsTableRoom self.old self.new }
     {
         let count = self.ways.len();
-        let at = slot(fold, self.heads.len());
-        self.folds[count] = fold;
+        let at = slot(hash, self.heads.len());
+        self.hashes[count] = hash;
         self.next[count] = self.heads[at];
         self.heads[at] = count as u32 + 1;
     }

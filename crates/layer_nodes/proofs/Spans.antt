@@ -108,14 +108,14 @@ module _ (dp : Dp) (k : ℕ) (region : RegionView) (nodes now : List Node) (i : 
   next-member all = subst (IsMemberOf dp k region) this (each-here (IsMemberOf dp k region) (members_from 0 nodes) i _ all (let e = length-members 0 nodes in omega arith))
 
   -- the ways of one node more
-  pub extended-next : (live : ℕ) (s : List ℤ) (row row2 : ℕ → List ℤ) (ways ways2 : List Way) (folds heads next folds2 heads2 next2 : List ℕ)
-      → AreExtended dp k i region live (members_from 0 nodes) row ways folds heads next → s ≡ held_row region (node_in now i).row
-      → HasExtended dp k i s (node_in now i).value (below (dp.choices k)) live row ways row2 ways2 folds2 heads2 next2
-      → AreExtended dp k (i + 1) region live (members_from 0 nodes) row2 ways2 folds2 heads2 next2
-  extended-next live s row row2 ways ways2 folds heads next folds2 heads2 next2 h same e =
-      members-more dp k i region live (members_from 0 nodes) _ s row row2 ways ways2 folds heads next folds2 heads2 next2 h
+  pub extended-next : (live : ℕ) (s : List ℤ) (row row2 : ℕ → List ℤ) (ways ways2 : List Way) (hashes heads next hashes2 heads2 next2 : List ℕ)
+      → AreExtended dp k i region live (members_from 0 nodes) row ways hashes heads next → s ≡ held_row region (node_in now i).row
+      → HasExtended dp k i s (node_in now i).value (below (dp.choices k)) live row ways row2 ways2 hashes2 heads2 next2
+      → AreExtended dp k (i + 1) region live (members_from 0 nodes) row2 ways2 hashes2 heads2 next2
+  extended-next live s row row2 ways ways2 hashes heads next hashes2 heads2 next2 h same e =
+      members-more dp k i region live (members_from 0 nodes) _ s row row2 ways ways2 hashes heads next hashes2 heads2 next2 h
       (let e = length-members 0 nodes in omega arith) (same ∙ ap (λ (m : Member). held_row region m.row) (sym this))
-      (subst (λ (m : Member). HasExtended dp k m.step s m.value (below (dp.choices k)) live row ways row2 ways2 folds2 heads2 next2) (sym this) e)
+      (subst (λ (m : Member). HasExtended dp k m.step s m.value (below (dp.choices k)) live row ways row2 ways2 hashes2 heads2 next2) (sym this) e)
 
   -- its row stays while other rows are taken
   pub row-stays : (all : Each (IsMemberOf dp k region) (members_from 0 nodes)) (new : RegionView) (places : List ℕ) → HasExchanged region [] new places

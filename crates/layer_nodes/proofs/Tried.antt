@@ -183,18 +183,18 @@ module _ (dp : Dp) (k : ℕ) (s : List ℤ) (exact : Bool) where
       ∙ (ap (map (trial s exact)) (filter-append (dp.allowed k s) (below n) (n ∷ [])) ∙ map-append (trial s exact) (all_allowed dp k s (below n)) (all_allowed dp k s (n ∷ [])))
 
 -- a decision that is not allowed makes no way
-refused : (dp : Dp) (k step : ℕ) (s : List ℤ) (value : ℤ) (live d : ℕ) (row row2 : ℕ → List ℤ) (ways ways2 : List Way) (folds heads next : List ℕ) → dp.allowed k s d ≡ false
-    → HasExtended dp k step s value (d ∷ []) live row ways row2 ways2 folds heads next → length ways2 ≡ length ways
-refused dp k step s value live d row row2 ways ways2 folds heads next bars h =
+refused : (dp : Dp) (k step : ℕ) (s : List ℤ) (value : ℤ) (live d : ℕ) (row row2 : ℕ → List ℤ) (ways ways2 : List Way) (hashes heads next : List ℕ) → dp.allowed k s d ≡ false
+    → HasExtended dp k step s value (d ∷ []) live row ways row2 ways2 hashes heads next → length ways2 ≡ length ways
+refused dp k step s value live d row row2 ways ways2 hashes heads next bars h =
     let paths : ℕ → List ℕ = λ i. [] in
     let list = h.list paths ∙ ap (λ b. all_joined (all_reached paths row ways) (map (extended dp k (parent_as paths step s value)) (cond b (d ∷ []) []))) bars in
     sym (length-table (reached_at paths row2 ways2) (length ways2)) ∙ (ap length list ∙ length-table (reached_at paths row ways) (length ways))
 
-pub tried-none : (dp : Dp) (k step : ℕ) (s : List ℤ) (value : ℤ) (exact : Bool) (live d : ℕ) (row row2 : ℕ → List ℤ) (ways ways2 : List Way) (folds heads next : List ℕ) (ts : List Trial) (marks : List Bool) (arcs : List DdArc) → dp.allowed k s d ≡ false
-    → HasExtended dp k step s value (d ∷ []) live row ways row2 ways2 folds heads next → ((i : ℕ) → i < length ways → row2 i ≡ row i)
+pub tried-none : (dp : Dp) (k step : ℕ) (s : List ℤ) (value : ℤ) (exact : Bool) (live d : ℕ) (row row2 : ℕ → List ℤ) (ways ways2 : List Way) (hashes heads next : List ℕ) (ts : List Trial) (marks : List Bool) (arcs : List DdArc) → dp.allowed k s d ≡ false
+    → HasExtended dp k step s value (d ∷ []) live row ways row2 ways2 hashes heads next → ((i : ℕ) → i < length ways → row2 i ≡ row i)
     → AreTried dp k row (length ways) ts marks arcs → AreTried dp k row2 (length ways2) (ts ++ trials_by dp k s exact (d ∷ [])) marks arcs
-tried-none dp k step s value exact live d row row2 ways ways2 folds heads next ts marks arcs bars h stay tried =
-    let few : length ways2 ≡ length ways = refused dp k step s value live d row row2 ways ways2 folds heads next bars h in
+tried-none dp k step s value exact live d row row2 ways ways2 hashes heads next ts marks arcs bars h stay tried =
+    let few : length ways2 ≡ length ways = refused dp k step s value live d row row2 ways ways2 hashes heads next bars h in
     let all : ts ++ trials_by dp k s exact (d ∷ []) ≡ ts = ap (λ us. ts ++ us) (trials-none dp k s exact d bars) ∙ append-nil ts in
     subst (λ us. AreTried dp k row2 (length ways2) us marks arcs) (sym all)
     (subst (λ n. AreTried dp k row2 n ts marks arcs) (sym few) (tried-stay dp k row row2 (length ways) ts marks arcs stay tried))

@@ -26,7 +26,7 @@ reduced_with dp first w t k m so_far last = first_of so_far (first_reduced_below
 pub record IsBuiltTo (dp : Dp) (t : Option ℤ) (k : ℕ) (start s : SpaceView) : Type 0 where
   pub deep : length start.prefix ≤ k
   pub low : k ≤ dp.vars
-  pub space : s ≡ record start { layers = s.layers; ranks = s.ranks; first_reduced = s.first_reduced }
+  pub space : s ≡ record start { layers = s.layers; told = s.told; first_reduced = s.first_reduced }
   pub size : length s.layers ≡ k - length start.prefix + 1
   pub layers : with_rest (compiled dp (length start.prefix) start.width t k (dp.vars - k)) s.layers ≡ compiled_from dp t start
   pub reduced_is : reduced_with dp (length start.prefix) start.width t k (dp.vars - k) s.first_reduced (last_layer s.layers)
@@ -80,8 +80,8 @@ builds-further dp t k start s new some low h n =
     record {
       deep = omega arith;
       low = omega arith;
-      space = n.space ∙ (let e : record s { layers = new.layers; ranks = new.ranks; first_reduced = new.first_reduced } ≡ record start { layers = new.layers; ranks = new.ranks; first_reduced = new.first_reduced } = ap (λ (v : SpaceView). record v { layers = new.layers; ranks = new.ranks; first_reduced = new.first_reduced }) h.space in
-          let f : record s { layers = expand_last (built dp (length s.prefix) s.width t (last_depth s)) s.layers; ranks = new.ranks; first_reduced = with_next dp t s } ≡ record s { layers = new.layers; ranks = new.ranks; first_reduced = new.first_reduced } = (let a = ap (λ (v : SpaceView). v.layers) n.space in let b = ap (λ (v : SpaceView). v.first_reduced) n.space in cc) in
+      space = n.space ∙ (let e : record s { layers = new.layers; told = new.told; first_reduced = new.first_reduced } ≡ record start { layers = new.layers; told = new.told; first_reduced = new.first_reduced } = ap (λ (v : SpaceView). record v { layers = new.layers; told = new.told; first_reduced = new.first_reduced }) h.space in
+          let f : record s { layers = expand_last (built dp (length s.prefix) s.width t (last_depth s)) s.layers; told = new.told; first_reduced = with_next dp t s } ≡ record s { layers = new.layers; told = new.told; first_reduced = new.first_reduced } = (let a = ap (λ (v : SpaceView). v.layers) n.space in let b = ap (λ (v : SpaceView). v.first_reduced) n.space in cc) in
           f ∙ e);
       size = ap (λ ls. length ls) layers ∙ (let long = length-expand (built dp first w t k) s.layers some-layer in omega arith);
       layers = ap (with_rest (compiled dp first w t (k + 1) m)) layers ∙ (sym (rest-expand dp first w t k m s.layers) ∙ (ap (λ c. with_rest (compiled dp first w t k c) s.layers) (sym left) ∙ h.layers));
@@ -104,23 +104,23 @@ builds-all dp t start s h =
     let reduced_is : s.first_reduced ≡ first_reduced_below dp first start.width t first (dp.vars - first) (start_layer (reached dp start.prefix)) =
     sym (first-of-none s.first_reduced) ∙ (ap (λ c. reduced_with dp first start.width t dp.vars c s.first_reduced (last_layer s.layers)) (sym none) ∙ h.reduced_is) in
     record {
-      space = h.space ∙ (ap (λ ls. record start { layers = ls; ranks = s.ranks; first_reduced = s.first_reduced }) layers ∙ ap (λ (o : Option ℕ). record start { layers = compiled_from dp t start; ranks = s.ranks; first_reduced = o }) reduced_is);
+      space = h.space ∙ (ap (λ ls. record start { layers = ls; told = s.told; first_reduced = s.first_reduced }) layers ∙ ap (λ (o : Option ℕ). record start { layers = compiled_from dp t start; told = s.told; first_reduced = o }) reduced_is);
       under_way = h.under_way;
     }
 
 -- a layer that is expanded, pruned and reduced is built
 
 abbrev after_pruning : Dp → Option ℤ → List Told → SpaceView → SpaceView
-after_pruning dp t ranks s = record s { layers = expand_last (λ l. prune dp (last_depth s + 1) t (expand dp (last_depth s) l)) s.layers; ranks = ranks }
+after_pruning dp t told s = record s { layers = expand_last (λ l. prune dp (last_depth s + 1) t (expand dp (last_depth s) l)) s.layers; told = told }
 
-one-built : (dp : Dp) (t : Option ℤ) (s new : SpaceView) (ranks : List Told) → 0 < length s.layers → HasReduced dp (after_pruning dp t ranks s) new → HasBuilt dp t s new
-one-built dp t s new ranks some h =
+one-built : (dp : Dp) (t : Option ℤ) (s new : SpaceView) (told : List Told) → 0 < length s.layers → HasReduced dp (after_pruning dp t told s) new → HasBuilt dp t s new
+one-built dp t s new told some h =
     let first = length s.prefix in
     let w = s.width in
     let k = last_depth s in
     let ls = s.layers in
     let rule : List DdNode → TwoLayers = λ l. prune dp (k + 1) t (expand dp k l) in
-    let pruned = after_pruning dp t ranks s in
+    let pruned = after_pruning dp t told s in
     let long = length-expand rule ls some in
     let deep : last_depth pruned ≡ k + 1 = omega arith in
     let layers : on_last_two (reduced dp first w (last_depth pruned)) pruned.layers ≡ expand_last (built dp first w t k) ls =
@@ -130,15 +130,15 @@ one-built dp t s new ranks some h =
     ap (λ n. cond (is_wide dp first w n (last_layer pruned.layers)) (reduced_first s.first_reduced n) s.first_reduced) deep
     ∙ ap (λ l. cond (is_wide dp first w (k + 1) l) (reduced_first s.first_reduced (k + 1)) s.first_reduced) last in
     record {
-      space = h.space ∙ (ap (λ ls. record s { layers = ls; ranks = new.ranks; first_reduced = with_last dp pruned }) layers ∙ ap (λ (o : Option ℕ). record s { layers = expand_last (built dp first w t k) ls; ranks = new.ranks; first_reduced = o }) least);
+      space = h.space ∙ (ap (λ ls. record s { layers = ls; told = new.told; first_reduced = with_last dp pruned }) layers ∙ ap (λ (o : Option ℕ). record s { layers = expand_last (built dp first w t k) ls; told = new.told; first_reduced = o }) least);
       under_way = h.under_way;
     }
 
-pub builds-one : (dp : Dp) (t : Option ℤ) (s pruned new : SpaceView) → 0 < length s.layers → pruned ≡ after_pruning dp t pruned.ranks s → HasReduced dp pruned new → HasBuilt dp t s new
-builds-one dp t s pruned new some e h = one-built dp t s new pruned.ranks some (subst (λ v. HasReduced dp v new) e h)
+pub builds-one : (dp : Dp) (t : Option ℤ) (s pruned new : SpaceView) → 0 < length s.layers → pruned ≡ after_pruning dp t pruned.told s → HasReduced dp pruned new → HasBuilt dp t s new
+builds-one dp t s pruned new some e h = one-built dp t s new pruned.told some (subst (λ v. HasReduced dp v new) e h)
 
 -- the expanded layers are one more
-pub some-pruned : (dp : Dp) (t : Option ℤ) (s pruned : SpaceView) → 0 < length s.layers → pruned ≡ after_pruning dp t pruned.ranks s → 0 < length pruned.layers
+pub some-pruned : (dp : Dp) (t : Option ℤ) (s pruned : SpaceView) → 0 < length s.layers → pruned ≡ after_pruning dp t pruned.told s → 0 < length pruned.layers
 some-pruned dp t s pruned some e =
     let a = ap (λ (v : SpaceView). length v.layers) e in
     let b = length-expand (λ l. prune dp (last_depth s + 1) t (expand dp (last_depth s) l)) s.layers some in

@@ -13,23 +13,23 @@ use Rattle.layer_nodes.specs.Nodes.{Told}
 
 -- a workspace in which a prefix is begun
 abbrev pub begun : Dp → List ℕ → List Told → SpaceView → SpaceView
-begun dp p ranks s = record s { prefix = p; layers = start_layer (reached dp p) ∷ []; ranks = ranks; first_reduced = None; held = length p }
+begun dp p told s = record s { prefix = p; layers = start_layer (reached dp p) ∷ []; told = told; first_reduced = None; held = length p }
 
 -- and built
 abbrev built_from : Dp → List ℕ → Option ℤ → List Told → SpaceView → SpaceView
-built_from dp p t ranks s = record s {
+built_from dp p t told s = record s {
   prefix = p;
   layers = compiled dp (length p) s.width t (length p) (dp.vars - length p) (start_layer (reached dp p));
-  ranks = ranks;
+  told = told;
   first_reduced = first_reduced_below dp (length p) s.width t (length p) (dp.vars - length p) (start_layer (reached dp p));
   held = length p;
 }
 
-is-built : (dp : Dp) (p : List ℕ) (t : Option ℤ) (s s1 s2 : SpaceView) → s1 ≡ begun dp p s1.ranks s → HasCompiled dp t s1 s2 → s2 ≡ built_from dp p t s2.ranks s
+is-built : (dp : Dp) (p : List ℕ) (t : Option ℤ) (s s1 s2 : SpaceView) → s1 ≡ begun dp p s1.told s → HasCompiled dp t s1 s2 → s2 ≡ built_from dp p t s2.told s
 is-built dp p t s s1 s2 e h =
     let After : SpaceView → SpaceView = λ v. record v {
       layers = compiled dp (length v.prefix) v.width t (length v.prefix) (dp.vars - length v.prefix) (start_layer (reached dp v.prefix));
-      ranks = s2.ranks;
+      told = s2.told;
       first_reduced = first_reduced_below dp (length v.prefix) v.width t (length v.prefix) (dp.vars - length v.prefix) (start_layer (reached dp v.prefix));
     } in
     h.space ∙ ap After e
@@ -39,7 +39,7 @@ pub record MaySuffix (dp : Dp) (s : SpaceView) : Type 0 where
   pub numbers : AreLayersWithin dp s.width (length s.prefix) s.layers
   pub whole : length s.prefix + length s.layers ≡ dp.vars + 1
 
-pub may-suffix : (dp : Dp) → IsLawful dp → (p : List ℕ) (t : Option ℤ) (s s1 s2 : SpaceView) → IsPreparedFor dp s → IsPrefix dp p → length p < dp.vars → s1 ≡ begun dp p s1.ranks s → HasCompiled dp t s1 s2 → MaySuffix dp s2
+pub may-suffix : (dp : Dp) → IsLawful dp → (p : List ℕ) (t : Option ℤ) (s s1 s2 : SpaceView) → IsPreparedFor dp s → IsPrefix dp p → length p < dp.vars → s1 ≡ begun dp p s1.told s → HasCompiled dp t s1 s2 → MaySuffix dp s2
 may-suffix dp laws p t s s1 s2 prepared prefix short e h =
     let long = compiled-length dp (length p) s.width t (length p) (dp.vars - length p) (start_layer (reached dp p)) in
     subst (MaySuffix dp) (sym (is-built dp p t s s1 s2 e h)) (record {
@@ -47,7 +47,7 @@ may-suffix dp laws p t s s1 s2 prepared prefix short e h =
       whole = omega arith;
     })
 
-pub is-made : (dp : Dp) (p : List ℕ) (t : Option ℤ) (s s1 s2 s3 : SpaceView) → IsPreparedFor dp s → s1 ≡ begun dp p s1.ranks s → HasCompiled dp t s1 s2 → s3 ≡ record s2 { layers = with_suffixes dp (length s2.prefix) s2.layers } → IsMade dp p t s s3
+pub is-made : (dp : Dp) (p : List ℕ) (t : Option ℤ) (s s1 s2 s3 : SpaceView) → IsPreparedFor dp s → s1 ≡ begun dp p s1.told s → HasCompiled dp t s1 s2 → s3 ≡ record s2 { layers = with_suffixes dp (length s2.prefix) s2.layers } → IsMade dp p t s s3
 is-made dp p t s s1 s2 s3 prepared e h f =
     let all = f ∙ ap (λ (v : SpaceView). record v { layers = with_suffixes dp (length v.prefix) v.layers }) (is-built dp p t s s1 s2 e h) in
     subst (IsMade dp p t s) (sym all) (record {

@@ -14,7 +14,7 @@ with_last dp s = cond (is_wide dp (length s.prefix) s.width (last_depth s) (last
 
 -- the last layer is reduced where it has to be
 pub record HasReduced (dp : Dp) (old new : SpaceView) : Type 0 where
-  pub space : new ≡ record old { layers = on_last_two (reduced dp (length old.prefix) old.width (last_depth old)) old.layers; ranks = new.ranks; first_reduced = with_last dp old }
+  pub space : new ≡ record old { layers = on_last_two (reduced dp (length old.prefix) old.width (last_depth old)) old.layers; told = new.told; first_reduced = with_last dp old }
   pub under_way : IsUnderWay dp new
 
 -- the least depth that was reduced, once the next layer is built
@@ -24,7 +24,7 @@ with_next dp t s = cond (is_wide dp (length s.prefix) s.width (last_depth s + 1)
 
 -- the next layer is built
 pub record HasBuilt (dp : Dp) (t : Option ℤ) (old new : SpaceView) : Type 0 where
-  pub space : new ≡ record old { layers = expand_last (built dp (length old.prefix) old.width t (last_depth old)) old.layers; ranks = new.ranks; first_reduced = with_next dp t old }
+  pub space : new ≡ record old { layers = expand_last (built dp (length old.prefix) old.width t (last_depth old)) old.layers; told = new.told; first_reduced = with_next dp t old }
   pub under_way : IsUnderWay dp new
 
 -- the layers are those of a prefix, before one is built
@@ -43,7 +43,7 @@ compiled_from dp t s = compiled dp (length s.prefix) s.width t (length s.prefix)
 pub record HasCompiled (dp : Dp) (t : Option ℤ) (old new : SpaceView) : Type 0 where
   pub space : new ≡ record old {
     layers = compiled_from dp t old;
-    ranks = new.ranks;
+    told = new.told;
     first_reduced = first_reduced_below dp (length old.prefix) old.width t (length old.prefix) (dp.vars - length old.prefix) (start_layer (reached dp old.prefix));
   }
   pub under_way : IsUnderWay dp new

@@ -148,7 +148,7 @@ pub fn expand_from<M: DpModel>(space: &mut Workspace, model: &M, pieces: &[Piece
     requires pieces { flat_map (λ p. p.candidates) pieces.now ≡ candidates_between (M.meaning (M.numbers model.now)) (last_depth space.old) (last_layer space.old.layers) 0 (length (last_layer space.old.layers)) }
     ensures layers { space.new ≡ record space.old {
       layers = expand_last (expand (M.meaning (M.numbers model.now)) (last_depth space.old)) space.old.layers;
-      ranks = space.new.ranks;
+      told = space.new.told;
     } }
     ensures under_way { IsUnderWay (M.meaning (M.numbers model.now)) space.new }
 {

@@ -161,7 +161,7 @@ impl<'r, R: Threads + Sync> Way<'r, R> {
         requires narrow { length space.old.prefix + 2 ≤ last_depth space.old → length (last_layer space.old.layers) ≤ space.old.width }
         ensures layers { space.new ≡ record space.old {
           layers = expand_last (expand (M.meaning (M.numbers model.now)) (last_depth space.old)) space.old.layers;
-          ranks = space.new.ranks;
+          told = space.new.told;
         } }
         ensures under_way { IsUnderWay (M.meaning (M.numbers model.now)) space.new }
     {
@@ -187,7 +187,7 @@ impl<'r, R: Threads + Sync> Way<'r, R> {
         requires narrow { length space.old.prefix + 2 ≤ last_depth space.old → length (last_layer space.old.layers) ≤ space.old.width }
         ensures layers { space.new ≡ record space.old {
           layers = expand_last (λ layer. prune (M.meaning (M.numbers model.now)) (last_depth space.old + 1) threshold (expand (M.meaning (M.numbers model.now)) (last_depth space.old) layer)) space.old.layers;
-          ranks = space.new.ranks;
+          told = space.new.told;
         } }
         ensures under_way { IsUnderWay (M.meaning (M.numbers model.now)) space.new }
     {

@@ -8,7 +8,7 @@ use Rattle.layer_candidates.specs.Rows.{HasZeros}
 use Rattle.layer_candidates.specs.Ways.{rows_of, way_row, IsWay, AreJoined}
 use Rattle.layer_candidates.proofs.HeldRows.{exchange-then}
 use Rattle.layer_candidates.proofs.Joined.{table-same, hashed-same, joined-same, reached-same}
-use Rattle.layer_candidates.proofs.Extended.{written, rows-zeros, have-fold, is-way, way-reaches, extended-one, spotted}
+use Rattle.layer_candidates.proofs.Extended.{written, rows-zeros, have-hash, is-way, way-reaches, extended-one, spotted}
 use Rattle.layer_candidates.proofs.extending.extend_by.Given as given
 use Rattle.layer_candidates.proofs.extending.extend_by.Goals as goal
 use Rattle.row_region.specs.Region.{IsLive}
@@ -27,7 +27,7 @@ take_in-place-requires-clause-table g c =
     let e = c.in_ok-gained.ensures in
     let allowed : IsAllowed dp a.k a.parent.state.now a.decision = record { layer = c.requires.layer; choice = c.requires.choice; test = sym e.allowed } in
     let w = written dp (laws_of g a.model.now) a.k a.parent.state.now a.decision a.region.now c.write_state.new.region a.spot.now.place a.table.now.ways.items c.requires.state allowed c.requires.held (e.written refl) in
-    table-same (way_row a.region.now a.table.now.ways.items) (way_row c.write_state.new.region a.table.now.ways.items) a.table.now.ways.items w.rows a.table.now.live a.table.now.folds.items a.table.now.heads.items a.table.now.next.items c.requires.joined.table
+    table-same (way_row a.region.now a.table.now.ways.items) (way_row c.write_state.new.region a.table.now.ways.items) a.table.now.ways.items w.rows a.table.now.live a.table.now.hashes.items a.table.now.heads.items a.table.now.next.items c.requires.joined.table
 
 pub row_of-next-requires : goal.row_of-next-requires
 row_of-next-requires g c =
@@ -58,8 +58,8 @@ take_in-place-requires-clause-hash g c =
     let mid = c.write_state.new.region in
     let row = ap (held_row mid) c.way_of-way.ensures.row ∙ w.row in
     let zeros : (i : ℕ) → i < length ways → HasZeros a.table.now.live (way_row mid ways i) = λ i less. subst (HasZeros a.table.now.live) (sym (w.rows i less)) (rows-zeros dp (a.k + 1) a.table.now.live (way_row a.region.now ways) ways c.requires.zeros c.requires.joined.good i less) in
-    have-fold dp (a.k + 1) a.table.now.live (way_row mid ways) ways a.table.now.folds.items (held_row mid c.way_of-way.result.row) c.way_of-way.result.hash
-    (hashed-same (way_row a.region.now ways) (way_row mid ways) ways w.rows dp (a.k + 1) a.table.now.folds.items c.requires.joined.hashed) zeros
+    have-hash dp (a.k + 1) a.table.now.live (way_row mid ways) ways a.table.now.hashes.items (held_row mid c.way_of-way.result.row) c.way_of-way.result.hash
+    (hashed-same (way_row a.region.now ways) (way_row mid ways) ways w.rows dp (a.k + 1) a.table.now.hashes.items c.requires.joined.hashed) zeros
     (subst (HasZeros a.table.now.live) (sym row) (c.requires.zeros (dp.step a.k a.parent.state.now a.decision) w.state))
     (c.way_of-way.ensures.hash ∙ (c.next_hash-hash.ensures ∙ ap (dp.hash (a.k + 1)) (c.row_of-next.ensures.row ∙ (w.row ∙ sym row))))
 
@@ -107,13 +107,13 @@ returns-clause-extended g c =
     let value = h.value ∙ ap (λ z. a.parent.value +ℤ z) e.extended.0 in
     let way = is-way dp laws a.k a.parent.state.now a.decision c.way_of-way.result a.parent.value w.here allowed c.requires.value value (h.rank ∙ e.extended.1) (h.hash ∙ (c.next_hash-hash.ensures ∙ ap (dp.hash (a.k + 1)) (c.row_of-next.ensures.row ∙ w.row))) in
     let row = ap (held_row mid) h.row ∙ w.row in
-    let was = joined-same (way_row a.region.now ways) (way_row mid ways) ways w.rows dp (a.k + 1) a.table.now.live a.table.now.folds.items a.table.now.heads.items a.table.now.next.items c.requires.joined in
+    let was = joined-same (way_row a.region.now ways) (way_row mid ways) ways w.rows dp (a.k + 1) a.table.now.live a.table.now.hashes.items a.table.now.heads.items a.table.now.next.items c.requires.joined in
     let size : c.len-count.result ≡ length ways = search rules in
     let next = spotted mid new a.spot.now.place c.next_spot.new.spot.place c.way_of-way.result.row ways ways2 c.take_in-place.result c.len-count.result w.exchanged.live h.row size t.place.grown t.new t.old c.next_spot.ensures.kept c.next_spot.ensures.left in
-    extended-one dp a.k a.parent.step a.parent.state.now a.parent.value a.table.now.live a.decision (way_row a.region.now ways) (way_row new ways2) ways ways2 c.take_in-place.new.self.folds.items c.take_in-place.new.self.heads.items c.take_in-place.new.self.next.items
+    extended-one dp a.k a.parent.step a.parent.state.now a.parent.value a.table.now.live a.decision (way_row a.region.now ways) (way_row new ways2) ways ways2 c.take_in-place.new.self.hashes.items c.take_in-place.new.self.heads.items c.take_in-place.new.self.next.items
     (sym e.allowed)
-    (joined-same (way_row mid ways2) (way_row new ways2) ways2 next.rows dp (a.k + 1) a.table.now.live c.take_in-place.new.self.folds.items c.take_in-place.new.self.heads.items c.take_in-place.new.self.next.items
-    (subst (λ v. AreJoined dp (a.k + 1) (way_row mid ways2) v ways2 c.take_in-place.new.self.folds.items c.take_in-place.new.self.heads.items c.take_in-place.new.self.next.items) t.live
+    (joined-same (way_row mid ways2) (way_row new ways2) ways2 next.rows dp (a.k + 1) a.table.now.live c.take_in-place.new.self.hashes.items c.take_in-place.new.self.heads.items c.take_in-place.new.self.next.items
+    (subst (λ v. AreJoined dp (a.k + 1) (way_row mid ways2) v ways2 c.take_in-place.new.self.hashes.items c.take_in-place.new.self.heads.items c.take_in-place.new.self.next.items) t.live
     (t.joined dp (a.k + 1) was (subst (λ r. IsWay dp (a.k + 1) r c.way_of-way.result) (sym row) way))))
     (λ paths. reached-same (way_row mid ways2) (way_row new ways2) ways2 next.rows paths ∙ (t.list paths was.apart
     ∙ ap₂ joined (reached-same (way_row a.region.now ways) (way_row mid ways) ways w.rows paths) (way-reaches dp a.k paths _ a.parent.state.now a.decision a.parent.step c.way_of-way.result a.parent.value row value h.parent h.decision)))

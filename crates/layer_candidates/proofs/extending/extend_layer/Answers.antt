@@ -29,9 +29,9 @@ members-init g c =
     let front = exchange-put a.region.now new spot put.0 put.2 put.1 places c.requires.live in
     let following = exchange-moved a.region.now new places (spot ∷ places) (places ++ spot ∷ []) (IsPermutation-sym (places ++ spot ∷ []) (spot ∷ places) (IsPermutation-to_front places spot)) front in
     record {
-      extended = subst (λ l. AreExtended dp a.k 0 a.region.now live a.members.now (way_row new l) l t.folds.items t.heads.items t.next.items) (sym empty.ways)
-          (subst (λ l. AreExtended dp a.k 0 a.region.now live a.members.now (way_row new []) [] t.folds.items l t.next.items) (sym empty.heads)
-          (members-start dp a.k a.region.now live a.members.now (way_row new []) t.folds.items t.next.items (length t.heads.items) empty.power));
+      extended = subst (λ l. AreExtended dp a.k 0 a.region.now live a.members.now (way_row new l) l t.hashes.items t.heads.items t.next.items) (sym empty.ways)
+          (subst (λ l. AreExtended dp a.k 0 a.region.now live a.members.now (way_row new []) [] t.hashes.items l t.next.items) (sym empty.heads)
+          (members-start dp a.k a.region.now live a.members.now (way_row new []) t.hashes.items t.next.items (length t.heads.items) empty.power));
       exchanged = subst (λ l. HasExchanged a.region.now places new (places ++ spot ∷ rows_of l)) (sym empty.ways) following;
       same = put-same a.region.now new spot put.0 put.2 put.1 places c.requires.live.live;
       live = c.clear.ensures.live;
@@ -80,8 +80,8 @@ extend_member-requires-clause-joined g c κs within =
     let dp = g.M.DpModel.meaning (g.M.DpModel.numbers c.args.model.now) in
     let a = c.args in let l = c.members in
     let m = moved-at dp a.k a.region.now l.region c.move_out.new.region a.members.now l.i l.spot.place l.table.ways.items c.move_out.new.cells c.requires.members c.members-test.true l.invariant.exchanged l.invariant.same c.move_out.ensures.cells c.move_out.ensures.given in
-    subst (λ v. AreJoined dp (a.k + 1) (way_row c.move_out.new.region l.table.ways.items) v l.table.ways.items l.table.folds.items l.table.heads.items l.table.next.items) (sym l.invariant.live)
-    (joined-same (way_row l.region l.table.ways.items) (way_row c.move_out.new.region l.table.ways.items) l.table.ways.items m.rows dp (a.k + 1) c.first_live-live.result l.table.folds.items l.table.heads.items l.table.next.items l.invariant.extended.joined)
+    subst (λ v. AreJoined dp (a.k + 1) (way_row c.move_out.new.region l.table.ways.items) v l.table.ways.items l.table.hashes.items l.table.heads.items l.table.next.items) (sym l.invariant.live)
+    (joined-same (way_row l.region l.table.ways.items) (way_row c.move_out.new.region l.table.ways.items) l.table.ways.items m.rows dp (a.k + 1) c.first_live-live.result l.table.hashes.items l.table.heads.items l.table.next.items l.invariant.extended.joined)
 
 pub extend_member-requires-clause-live : goal.extend_member-requires-clause-live
 extend_member-requires-clause-live g c κs within =
@@ -117,8 +117,8 @@ members-preserved g c =
     let new = way_row e.new.region e.new.table.ways.items in
     let beside = exchange-beside c.move_out.new.region e.new.region before after e.ensures.exchanged rest m.exchanged.live in
     record {
-      extended = members-more dp a.k l.i a.region.now c.first_live-live.result a.members.now no_member c.move_out.new.cells mid new l.table.ways.items e.new.table.ways.items l.table.folds.items l.table.heads.items l.table.next.items e.new.table.folds.items e.new.table.heads.items e.new.table.next.items
-          (extended-same-rows dp a.k l.i a.region.now c.first_live-live.result a.members.now row mid l.table.ways.items l.table.folds.items l.table.heads.items l.table.next.items m.rows l.invariant.extended) c.members-test.true m.row
+      extended = members-more dp a.k l.i a.region.now c.first_live-live.result a.members.now no_member c.move_out.new.cells mid new l.table.ways.items e.new.table.ways.items l.table.hashes.items l.table.heads.items l.table.next.items e.new.table.hashes.items e.new.table.heads.items e.new.table.next.items
+          (extended-same-rows dp a.k l.i a.region.now c.first_live-live.result a.members.now row mid l.table.ways.items l.table.hashes.items l.table.heads.items l.table.next.items m.rows l.invariant.extended) c.members-test.true m.row
           (took-in-as dp a.k m0.step m0.step c.move_out.new.cells c.move_out.new.cells m0.value m0.value (below (dp.choices a.k)) c.move_out.new.region l.table e.new.region e.new.table c.first_live-live.result refl refl refl l.invariant.live e.ensures.extended);
       exchanged = exchange-then a.region.now c.move_out.new.region e.new.region places (rest ++ before) (rest ++ after) m.exchanged beside.0;
       same = same-then a.region.now c.move_out.new.region e.new.region rest m.same beside.1;
@@ -143,7 +143,7 @@ returns-clause-list g c =
     let spot = spot-given a.region.now l.region c.give.new.self a.members.now l.i l.spot.place l.table.ways.items (let test = c.members-test.false in let end = l.auto.i-end in omega arith) l.invariant.exchanged c.give.ensures in
     λ paths.
     reached-same (way_row l.region l.table.ways.items) (way_row c.give.new.self l.table.ways.items) l.table.ways.items spot.1 paths
-    ∙ members-all dp a.k l.i a.region.now c.first_live-live.result a.members.now (way_row l.region l.table.ways.items) l.table.ways.items l.table.folds.items l.table.heads.items l.table.next.items l.invariant.extended (let test = c.members-test.false in let end = l.auto.i-end in omega arith) paths
+    ∙ members-all dp a.k l.i a.region.now c.first_live-live.result a.members.now (way_row l.region l.table.ways.items) l.table.ways.items l.table.hashes.items l.table.heads.items l.table.next.items l.invariant.extended (let test = c.members-test.false in let end = l.auto.i-end in omega arith) paths
 
 pub returns-clause-exchanged : goal.returns-clause-exchanged
 returns-clause-exchanged g c =

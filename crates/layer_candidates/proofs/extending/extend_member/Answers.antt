@@ -11,7 +11,7 @@ decisions-init g c =
     let within = first.ensures.within in
     let choices = c.choices-choices.ensures in
     record {
-      extending = extending-first dp a.k a.member.step a.s.now a.member.value a.table.now.live a.region.now a.spot.now.place a.table.now.ways.items first.result a.table.now.folds.items a.table.now.heads.items a.table.now.next.items first.ensures.on first.ensures.skipped c.requires.held c.requires.joined;
+      extending = extending-first dp a.k a.member.step a.s.now a.member.value a.table.now.live a.region.now a.spot.now.place a.table.now.ways.items first.result a.table.now.hashes.items a.table.now.heads.items a.table.now.next.items first.ensures.on first.ensures.skipped c.requires.held c.requires.joined;
       within = omega arith;
       live = refl;
       room = keeps-self a.table.now;
@@ -21,7 +21,7 @@ pub extend_by-requires-clause-joined : goal.extend_by-requires-clause-joined
 extend_by-requires-clause-joined g c κs within =
     let dp = g.M.DpModel.meaning (g.M.DpModel.numbers c.args.model.now) in
     let a = c.args in let l = c.decisions in
-    subst (λ v. AreJoined dp (a.k + 1) (way_row l.region l.table.ways.items) v l.table.ways.items l.table.folds.items l.table.heads.items l.table.next.items) (sym l.invariant.live) l.invariant.extending.extended.joined
+    subst (λ v. AreJoined dp (a.k + 1) (way_row l.region l.table.ways.items) v l.table.ways.items l.table.hashes.items l.table.heads.items l.table.next.items) (sym l.invariant.live) l.invariant.extending.extended.joined
 
 pub extend_by-requires-clause-state : goal.extend_by-requires-clause-state
 extend_by-requires-clause-state g c κs within =
@@ -63,7 +63,7 @@ extend_by-requires-clause-room g c κs within =
     let a = c.args in let l = c.decisions in
     let less = c.decisions-test.true in
     let choices = c.choices-choices.ensures in
-    let few = extending-few dp a.k a.member.step a.s.now a.member.value a.table.now.live a.region.now a.spot.now.place a.table.now.ways.items l.decision l.region l.spot.place l.table.ways.items l.table.folds.items l.table.heads.items l.table.next.items l.invariant.extending (omega arith) in
+    let few = extending-few dp a.k a.member.step a.s.now a.member.value a.table.now.live a.region.now a.spot.now.place a.table.now.ways.items l.decision l.region l.spot.place l.table.ways.items l.table.hashes.items l.table.heads.items l.table.next.items l.invariant.extending (omega arith) in
     room-kept (length l.table.ways.items + 1) (length a.table.now.ways.items + dp.choices a.k) a.table.now l.table l.invariant.room few c.requires.room
 
 pub extend_by-requires-clause-spare : goal.extend_by-requires-clause-spare
@@ -72,7 +72,7 @@ extend_by-requires-clause-spare g c κs within =
     let a = c.args in let l = c.decisions in
     let less = c.decisions-test.true in
     let choices = c.choices-choices.ensures in
-    extending-spare dp a.k a.member.step a.s.now a.member.value a.table.now.live a.region.now a.spot.now.place a.table.now.ways.items l.decision l.region l.spot.place l.table.ways.items l.table.folds.items l.table.heads.items l.table.next.items l.invariant.extending (omega arith) c.requires.spare
+    extending-spare dp a.k a.member.step a.s.now a.member.value a.table.now.live a.region.now a.spot.now.place a.table.now.ways.items l.decision l.region l.spot.place l.table.ways.items l.table.hashes.items l.table.heads.items l.table.next.items l.invariant.extending (omega arith) c.requires.spare
 
 pub decisions-preserved : goal.decisions-preserved
 decisions-preserved g c =
@@ -82,8 +82,8 @@ decisions-preserved g c =
     let within = after.ensures.within in
     let choices = c.choices-choices.ensures in
     record {
-      extending = extending-more dp a.k a.member.step a.s.now a.member.value a.table.now.live a.region.now a.spot.now.place a.table.now.ways.items l.decision l.region l.spot.place l.table.ways.items l.table.folds.items l.table.heads.items l.table.next.items l.invariant.extending
-          after.result e.new.region e.new.spot.place e.new.table.ways.items e.new.table.folds.items e.new.table.heads.items e.new.table.next.items after.ensures.on after.ensures.skipped
+      extending = extending-more dp a.k a.member.step a.s.now a.member.value a.table.now.live a.region.now a.spot.now.place a.table.now.ways.items l.decision l.region l.spot.place l.table.ways.items l.table.hashes.items l.table.heads.items l.table.next.items l.invariant.extending
+          after.result e.new.region e.new.spot.place e.new.table.ways.items e.new.table.hashes.items e.new.table.heads.items e.new.table.next.items after.ensures.on after.ensures.skipped
           (took-in-as dp a.k p.step a.member.step p.state.now a.s.now p.value a.member.value (l.decision ∷ []) l.region l.table e.new.region e.new.table a.table.now.live h.step h.state h.value l.invariant.live e.ensures.extended) e.ensures.exchanged;
       within = omega arith;
       live = e.ensures.live ∙ l.invariant.live;
@@ -97,7 +97,7 @@ returns-clause-extended g c =
     let past = c.decisions-test.false in
     let within = l.invariant.within in
     let choices = c.choices-choices.ensures in
-    extending-all dp a.k a.member.step a.s.now a.member.value a.table.now.live a.region.now a.spot.now.place a.table.now.ways.items l.decision l.region l.spot.place l.table.ways.items l.table.folds.items l.table.heads.items l.table.next.items l.invariant.extending (omega arith) (λ less. omega arith)
+    extending-all dp a.k a.member.step a.s.now a.member.value a.table.now.live a.region.now a.spot.now.place a.table.now.ways.items l.decision l.region l.spot.place l.table.ways.items l.table.hashes.items l.table.heads.items l.table.next.items l.invariant.extending (omega arith) (λ less. omega arith)
 
 pub returns-clause-exchanged : goal.returns-clause-exchanged
 returns-clause-exchanged g c = c.decisions.invariant.extending.exchanged

@@ -31,9 +31,9 @@ nodes-init g c =
     let none : arcs ≡ [] = c.clear-2.ensures.items in
     let size = ap length none in
     record {
-      extended = subst (λ l. AreExtended dp a.k 0 a.region.now live (members_from 0 a.nodes.now) (way_row new l) l t.folds.items t.heads.items t.next.items) (sym empty.ways)
-          (subst (λ l. AreExtended dp a.k 0 a.region.now live (members_from 0 a.nodes.now) (way_row new []) [] t.folds.items l t.next.items) (sym empty.heads)
-          (members-start dp a.k a.region.now live (members_from 0 a.nodes.now) (way_row new []) t.folds.items t.next.items (length t.heads.items) empty.power));
+      extended = subst (λ l. AreExtended dp a.k 0 a.region.now live (members_from 0 a.nodes.now) (way_row new l) l t.hashes.items t.heads.items t.next.items) (sym empty.ways)
+          (subst (λ l. AreExtended dp a.k 0 a.region.now live (members_from 0 a.nodes.now) (way_row new []) [] t.hashes.items l t.next.items) (sym empty.heads)
+          (members-start dp a.k a.region.now live (members_from 0 a.nodes.now) (way_row new []) t.hashes.items t.next.items (length t.heads.items) empty.power));
       exchanged = subst (λ l. HasExchanged a.region.now [] new (c.take_row-spot.result.place ∷ rows_of l)) (sym empty.ways)
           (exchange-put a.region.now new c.take_row-spot.result.place put.0 put.2 put.1 [] (record { live = tt; apart = tt }));
       tried = subst (λ l. AreTried dp a.k (way_row new l) (length l) [] a.found.now.marks.items arcs) (sym empty.ways)
@@ -111,7 +111,7 @@ pub try_node-requires-clause-joined : goal.try_node-requires-clause-joined
 try_node-requires-clause-joined g c κs within =
     let dp = g.M.DpModel.meaning (g.M.DpModel.numbers c.args.model.now) in
     let l = c.nodes in let t = l.found.table in
-    subst (λ v. AreJoined dp (c.args.k + 1) (way_row l.region t.ways.items) v t.ways.items t.folds.items t.heads.items t.next.items) (sym l.invariant.live) l.invariant.extended.joined
+    subst (λ v. AreJoined dp (c.args.k + 1) (way_row l.region t.ways.items) v t.ways.items t.hashes.items t.heads.items t.next.items) (sym l.invariant.live) l.invariant.extended.joined
 
 pub try_node-requires-clause-live : goal.try_node-requires-clause-live
 try_node-requires-clause-live g c κs within =
@@ -198,10 +198,10 @@ nodes-preserved g c =
     let is = c.span.ensures (length us) (omega arith) in
     let more = e.ensures.arcs_few in
     let few = l.invariant.arcs_few in
-    let made = subst (λ (p : Member). HasExtended dp a.k p.step c.copy_row.new.cells p.value (below (dp.choices a.k)) c.first_live-live.result row l.found.table.ways.items row2 e.new.found.table.ways.items e.new.found.table.folds.items e.new.found.table.heads.items e.new.found.table.next.items) c.member_of-parent.ensures
-    (subst (λ v. HasExtended dp a.k c.member_of-parent.result.step c.copy_row.new.cells c.member_of-parent.result.value (below (dp.choices a.k)) v row l.found.table.ways.items row2 e.new.found.table.ways.items e.new.found.table.folds.items e.new.found.table.heads.items e.new.found.table.next.items) l.invariant.live e.ensures.extended) in
+    let made = subst (λ (p : Member). HasExtended dp a.k p.step c.copy_row.new.cells p.value (below (dp.choices a.k)) c.first_live-live.result row l.found.table.ways.items row2 e.new.found.table.ways.items e.new.found.table.hashes.items e.new.found.table.heads.items e.new.found.table.next.items) c.member_of-parent.ensures
+    (subst (λ v. HasExtended dp a.k c.member_of-parent.result.step c.copy_row.new.cells c.member_of-parent.result.value (below (dp.choices a.k)) v row l.found.table.ways.items row2 e.new.found.table.ways.items e.new.found.table.hashes.items e.new.found.table.heads.items e.new.found.table.next.items) l.invariant.live e.ensures.extended) in
     record {
-      extended = extended-next dp a.k a.region.now a.nodes.now l.nodes l.i c.nodes-test.true l.invariant.spans c.first_live-live.result c.copy_row.new.cells row row2 l.found.table.ways.items e.new.found.table.ways.items l.found.table.folds.items l.found.table.heads.items l.found.table.next.items e.new.found.table.folds.items e.new.found.table.heads.items e.new.found.table.next.items
+      extended = extended-next dp a.k a.region.now a.nodes.now l.nodes l.i c.nodes-test.true l.invariant.spans c.first_live-live.result c.copy_row.new.cells row row2 l.found.table.ways.items e.new.found.table.ways.items l.found.table.hashes.items l.found.table.heads.items l.found.table.next.items e.new.found.table.hashes.items e.new.found.table.heads.items e.new.found.table.next.items
           l.invariant.extended copied made;
       exchanged = exchange-then a.region.now l.region e.new.region [] (l.spot.place ∷ rows_of l.found.table.ways.items) (e.new.spot.place ∷ rows_of e.new.found.table.ways.items) l.invariant.exchanged e.ensures.exchanged;
       tried = tried-next dp a.k (held_row a.region.now) a.nodes.now l.nodes l.i c.nodes-test.true l.invariant.spans c.copy_row.new.cells row2 (length e.new.found.table.ways.items) e.new.found.marks.items e.new.arcs.items copied tried;
@@ -245,7 +245,7 @@ returns-clause-list g c paths =
     let end = l.auto.i-end in
     let size = length-members 0 a.nodes.now in
     reached-same row row2 l.found.table.ways.items stay paths
-    ∙ members-all dp a.k l.i a.region.now c.first_live-live.result (members_from 0 a.nodes.now) row l.found.table.ways.items l.found.table.folds.items l.found.table.heads.items l.found.table.next.items l.invariant.extended (omega arith) paths
+    ∙ members-all dp a.k l.i a.region.now c.first_live-live.result (members_from 0 a.nodes.now) row l.found.table.ways.items l.found.table.hashes.items l.found.table.heads.items l.found.table.next.items l.invariant.extended (omega arith) paths
 
 pub returns-clause-tried : goal.returns-clause-tried
 returns-clause-tried g c =

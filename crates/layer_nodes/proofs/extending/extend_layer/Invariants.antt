@@ -8,7 +8,7 @@ use Rattle.layer_nodes.proofs.extending.extend_layer.Given as goal
 
 abbrev pub invariant-nodes : goal.invariant-nodes
 invariant-nodes g l = record {
-  extended : AreExtended (g.M.DpModel.meaning (g.M.DpModel.numbers l.model)) l.k l.i l.fn.region l.live (members_from 0 l.fn.nodes) (way_row l.region l.found.table.ways.items) l.found.table.ways.items l.found.table.folds.items l.found.table.heads.items l.found.table.next.items;
+  extended : AreExtended (g.M.DpModel.meaning (g.M.DpModel.numbers l.model)) l.k l.i l.fn.region l.live (members_from 0 l.fn.nodes) (way_row l.region l.found.table.ways.items) l.found.table.ways.items l.found.table.hashes.items l.found.table.heads.items l.found.table.next.items;
   exchanged : HasExchanged l.fn.region [] l.region (l.spot.place ∷ rows_of l.found.table.ways.items);
   tried : AreTried (g.M.DpModel.meaning (g.M.DpModel.numbers l.model)) l.k (way_row l.region l.found.table.ways.items) (length l.found.table.ways.items) (trials_of (g.M.DpModel.meaning (g.M.DpModel.numbers l.model)) l.k (held_row l.fn.region) (take l.i l.fn.nodes)) l.found.marks.items l.arcs.items;
   spans : l.nodes ≡ all_spanned (g.M.DpModel.meaning (g.M.DpModel.numbers l.model)) l.k (held_row l.fn.region) 0 (take l.i l.fn.nodes) ++ drop l.i l.fn.nodes;

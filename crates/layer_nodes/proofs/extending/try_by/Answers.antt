@@ -46,5 +46,5 @@ returns-in_default-clause-tried g c = λ ts h.
     let a = c.args in
     let e = c.extend_by in
     let told = c.in_default.ensures in
-    tried-none dp a.k a.attempt.parent.step a.attempt.parent.state.now a.attempt.parent.value a.attempt.exact a.found.now.table.live a.attempt.decision (way_row a.region.now a.found.now.table.ways.items) (way_row e.new.region e.new.table.ways.items) a.found.now.table.ways.items e.new.table.ways.items e.new.table.folds.items e.new.table.heads.items e.new.table.next.items
+    tried-none dp a.k a.attempt.parent.step a.attempt.parent.state.now a.attempt.parent.value a.attempt.exact a.found.now.table.live a.attempt.decision (way_row a.region.now a.found.now.table.ways.items) (way_row e.new.region e.new.table.ways.items) a.found.now.table.ways.items e.new.table.ways.items e.new.table.hashes.items e.new.table.heads.items e.new.table.next.items
     ts a.found.now.marks.items a.arcs.now.items (sym told.allowed) told.extended told.before h

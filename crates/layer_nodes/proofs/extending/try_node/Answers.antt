@@ -15,14 +15,14 @@ try_by-requires-clause-room g c κs within =
     let a = c.args in let l = c.decisions in
     let less = c.decisions-test.true in
     let choices = c.choices-choices.ensures in
-    let few = extending-few dp a.k a.node.member.step a.node.state.now a.node.member.value a.found.now.table.live a.region.now a.spot.now.place a.found.now.table.ways.items l.decision l.region l.spot.place l.found.table.ways.items l.found.table.folds.items l.found.table.heads.items l.found.table.next.items l.invariant.extending (omega arith) in
+    let few = extending-few dp a.k a.node.member.step a.node.state.now a.node.member.value a.found.now.table.live a.region.now a.spot.now.place a.found.now.table.ways.items l.decision l.region l.spot.place l.found.table.ways.items l.found.table.hashes.items l.found.table.heads.items l.found.table.next.items l.invariant.extending (omega arith) in
     room-kept (length l.found.table.ways.items + 1) (length a.found.now.table.ways.items + dp.choices a.k) a.found.now.table l.found.table l.invariant.room few c.requires.room
 
 pub try_by-requires-clause-joined : goal.try_by-requires-clause-joined
 try_by-requires-clause-joined g c κs within =
     let dp = g.M.DpModel.meaning (g.M.DpModel.numbers c.args.model.now) in
     let a = c.args in let l = c.decisions in let t = l.found.table in
-    subst (λ v. AreJoined dp (a.k + 1) (way_row l.region t.ways.items) v t.ways.items t.folds.items t.heads.items t.next.items) (sym l.invariant.live) l.invariant.extending.extended.joined
+    subst (λ v. AreJoined dp (a.k + 1) (way_row l.region t.ways.items) v t.ways.items t.hashes.items t.heads.items t.next.items) (sym l.invariant.live) l.invariant.extending.extended.joined
 
 pub try_by-requires-clause-state : goal.try_by-requires-clause-state
 try_by-requires-clause-state g c κs within =
@@ -64,7 +64,7 @@ try_by-requires-clause-spare g c κs within =
     let a = c.args in let l = c.decisions in
     let less = c.decisions-test.true in
     let choices = c.choices-choices.ensures in
-    extending-spare dp a.k a.node.member.step a.node.state.now a.node.member.value a.found.now.table.live a.region.now a.spot.now.place a.found.now.table.ways.items l.decision l.region l.spot.place l.found.table.ways.items l.found.table.folds.items l.found.table.heads.items l.found.table.next.items l.invariant.extending (omega arith) c.requires.spare
+    extending-spare dp a.k a.node.member.step a.node.state.now a.node.member.value a.found.now.table.live a.region.now a.spot.now.place a.found.now.table.ways.items l.decision l.region l.spot.place l.found.table.ways.items l.found.table.hashes.items l.found.table.heads.items l.found.table.next.items l.invariant.extending (omega arith) c.requires.spare
 
 pub try_by-requires-clause-marks_room : goal.try_by-requires-clause-marks_room
 try_by-requires-clause-marks_room g c κs within =
@@ -93,7 +93,7 @@ decisions-init g c =
     let within = first.ensures.within in
     let choices = c.choices-choices.ensures in
     record {
-      extending = extending-first dp a.k a.node.member.step a.node.state.now a.node.member.value a.found.now.table.live a.region.now a.spot.now.place a.found.now.table.ways.items first.result a.found.now.table.folds.items a.found.now.table.heads.items a.found.now.table.next.items first.ensures.on first.ensures.skipped c.requires.held c.requires.joined;
+      extending = extending-first dp a.k a.node.member.step a.node.state.now a.node.member.value a.found.now.table.live a.region.now a.spot.now.place a.found.now.table.ways.items first.result a.found.now.table.hashes.items a.found.now.table.heads.items a.found.now.table.next.items first.ensures.on first.ensures.skipped c.requires.held c.requires.joined;
       tried = λ ts was. subst (λ us. AreTried dp a.k row (length a.found.now.table.ways.items) us a.found.now.marks.items a.arcs.now.items)
           (sym (append-nil ts) ∙ ap (λ ds. ts ++ map (trial a.node.state.now a.node.exact) ds) (sym (allowed-skipped dp a.k a.node.state.now 0 first.result first.ensures.on first.ensures.skipped))) was;
       within = omega arith;
@@ -120,8 +120,8 @@ decisions-preserved g c =
     let choices = c.choices-choices.ensures in
     let few = inv.arcs_few in
     record {
-      extending = extending-more dp a.k a.node.member.step a.node.state.now a.node.member.value a.found.now.table.live a.region.now a.spot.now.place a.found.now.table.ways.items l.decision l.region l.spot.place l.found.table.ways.items l.found.table.folds.items l.found.table.heads.items l.found.table.next.items l.invariant.extending
-          after.result e.new.region e.new.spot.place e.new.found.table.ways.items e.new.found.table.folds.items e.new.found.table.heads.items e.new.found.table.next.items after.ensures.on after.ensures.skipped
+      extending = extending-more dp a.k a.node.member.step a.node.state.now a.node.member.value a.found.now.table.live a.region.now a.spot.now.place a.found.now.table.ways.items l.decision l.region l.spot.place l.found.table.ways.items l.found.table.hashes.items l.found.table.heads.items l.found.table.next.items l.invariant.extending
+          after.result e.new.region e.new.spot.place e.new.found.table.ways.items e.new.found.table.hashes.items e.new.found.table.heads.items e.new.found.table.next.items after.ensures.on after.ensures.skipped
           (took-in-as dp a.k p.step a.node.member.step p.state.now a.node.state.now p.value a.node.member.value (n ∷ []) l.region l.found.table e.new.region e.new.found.table a.found.now.table.live h.step h.state h.value inv.live e.ensures.extended) e.ensures.exchanged;
       tried = λ ts was. subst (λ us. AreTried dp a.k row3 (length e.new.found.table.ways.items) us e.new.found.marks.items e.new.arcs.items)
           (append_assoc ts (trials_by dp a.k a.node.state.now a.node.exact (below n)) (trials_by dp a.k a.node.state.now a.node.exact (n ∷ []))
@@ -144,7 +144,7 @@ returns-clause-extended g c =
     let past = c.decisions-test.false in
     let within = l.invariant.within in
     let choices = c.choices-choices.ensures in
-    extending-all dp a.k a.node.member.step a.node.state.now a.node.member.value a.found.now.table.live a.region.now a.spot.now.place a.found.now.table.ways.items l.decision l.region l.spot.place l.found.table.ways.items l.found.table.folds.items l.found.table.heads.items l.found.table.next.items l.invariant.extending (omega arith) (λ less. omega arith)
+    extending-all dp a.k a.node.member.step a.node.state.now a.node.member.value a.found.now.table.live a.region.now a.spot.now.place a.found.now.table.ways.items l.decision l.region l.spot.place l.found.table.ways.items l.found.table.hashes.items l.found.table.heads.items l.found.table.next.items l.invariant.extending (omega arith) (λ less. omega arith)
 
 pub returns-clause-exchanged : goal.returns-clause-exchanged
 returns-clause-exchanged g c = c.decisions.invariant.extending.exchanged

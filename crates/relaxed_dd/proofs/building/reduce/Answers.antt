@@ -23,7 +23,7 @@ returns g c =
     let wide : is_wide dp (length s.prefix) s.width (last_depth s) (last_layer s.layers) ≡ true = sym c.is_wide.ensures ∙ c.if-not-is_wide.false in
     let least = sym (ap (λ b. cond b (reduced_first s.first_reduced (last_depth s)) s.first_reduced) wide) in
     record {
-      space = c.merge_rest.ensures.layers ∙ (ap (λ ls. record s { layers = ls; ranks = c.merge_rest.new.self.ranks; first_reduced = reduced_first s.first_reduced (last_depth s) }) (reduced-wide dp (length s.prefix) s.width (last_depth s) s.layers wide)
-          ∙ ap (λ (o : Option ℕ). record s { layers = on_last_two (reduced dp (length s.prefix) s.width (last_depth s)) s.layers; ranks = c.merge_rest.new.self.ranks; first_reduced = o }) least);
+      space = c.merge_rest.ensures.layers ∙ (ap (λ ls. record s { layers = ls; told = c.merge_rest.new.self.told; first_reduced = reduced_first s.first_reduced (last_depth s) }) (reduced-wide dp (length s.prefix) s.width (last_depth s) s.layers wide)
+          ∙ ap (λ (o : Option ℕ). record s { layers = on_last_two (reduced dp (length s.prefix) s.width (last_depth s)) s.layers; told = c.merge_rest.new.self.told; first_reduced = o }) least);
       under_way = c.merge_rest.ensures.under_way;
     }

@@ -135,11 +135,11 @@ returns-clause-layers g c =
     let written : c.write_all.new.to.items ≡ p = c.write_all.ensures.items ∙ (c.as_slice-3.ensures.value ∙ decisions) in
     let seen = started-layers dp i p c.len-first.result n c.start.new.region c.as_slice-4.result.now (to_z w64 (of_z w64 c.sub.inside.value)) (to_z w64 (of_z w64 c.rank-rank.result)) c.hash-hash.result _ c.start.ensures.node row value in
     let here : the_view (record i { prefix = c.write_all.new.to; stack = started i c.len-first.result n c.start.new.region; first_reduced = None; held = c.len-first.result })
-    ≡ record c.args.self.now { prefix = p; layers = start_layer (reached dp p) ∷ []; ranks = map told_by n.nodes; first_reduced = None; held = length p } =
-    ap (λ (q : List ℕ). record (the_view i) { room = n.nodes_room; prefix = q; layers = shown_stack q (started i c.len-first.result n c.start.new.region); ranks = map told_by n.nodes; first_reduced = None; held = c.len-first.result }) written
-    ∙ (ap (λ (k : ℕ). record (the_view i) { room = n.nodes_room; prefix = p; layers = shown_stack p (started i c.len-first.result n c.start.new.region); ranks = map told_by n.nodes; first_reduced = None; held = k }) first
-    ∙ (ap₂ (λ (r : ℕ) (l : List (List DdNode)). record (the_view i) { room = r; prefix = p; layers = l; ranks = map told_by n.nodes; first_reduced = None; held = length p }) c.start.ensures.rooms.nodes_room seen
-    ∙ ap (λ (s : SpaceView). record s { prefix = p; layers = start_layer (reached dp p) ∷ []; ranks = map told_by n.nodes; first_reduced = None; held = length p }) c.self.view_is)) in
+    ≡ record c.args.self.now { prefix = p; layers = start_layer (reached dp p) ∷ []; told = map told_by n.nodes; first_reduced = None; held = length p } =
+    ap (λ (q : List ℕ). record (the_view i) { room = n.nodes_room; prefix = q; layers = shown_stack q (started i c.len-first.result n c.start.new.region); told = map told_by n.nodes; first_reduced = None; held = c.len-first.result }) written
+    ∙ (ap (λ (k : ℕ). record (the_view i) { room = n.nodes_room; prefix = p; layers = shown_stack p (started i c.len-first.result n c.start.new.region); told = map told_by n.nodes; first_reduced = None; held = k }) first
+    ∙ (ap₂ (λ (r : ℕ) (l : List (List DdNode)). record (the_view i) { room = r; prefix = p; layers = l; told = map told_by n.nodes; first_reduced = None; held = length p }) c.start.ensures.rooms.nodes_room seen
+    ∙ ap (λ (s : SpaceView). record s { prefix = p; layers = start_layer (reached dp p) ∷ []; told = map told_by n.nodes; first_reduced = None; held = length p }) c.self.view_is)) in
     here
 
 pub returns-clause-under_way : goal.returns-clause-under_way
@@ -159,16 +159,16 @@ returns-clause-under_way g c =
     let written : c.write_all.new.to.items ≡ p = c.write_all.ensures.items ∙ (c.as_slice-3.ensures.value ∙ decisions) in
     let seen = started-layers dp i p c.len-first.result n c.start.new.region c.as_slice-4.result.now (to_z w64 (of_z w64 c.sub.inside.value)) (to_z w64 (of_z w64 c.rank-rank.result)) c.hash-hash.result _ c.start.ensures.node row value in
     let here : the_view (record i { prefix = c.write_all.new.to; stack = started i c.len-first.result n c.start.new.region; first_reduced = None; held = c.len-first.result })
-    ≡ record c.args.self.now { prefix = p; layers = start_layer (reached dp p) ∷ []; ranks = map told_by n.nodes; first_reduced = None; held = length p } =
-    ap (λ (q : List ℕ). record (the_view i) { room = n.nodes_room; prefix = q; layers = shown_stack q (started i c.len-first.result n c.start.new.region); ranks = map told_by n.nodes; first_reduced = None; held = c.len-first.result }) written
-    ∙ (ap (λ (k : ℕ). record (the_view i) { room = n.nodes_room; prefix = p; layers = shown_stack p (started i c.len-first.result n c.start.new.region); ranks = map told_by n.nodes; first_reduced = None; held = k }) first
-    ∙ (ap₂ (λ (r : ℕ) (l : List (List DdNode)). record (the_view i) { room = r; prefix = p; layers = l; ranks = map told_by n.nodes; first_reduced = None; held = length p }) c.start.ensures.rooms.nodes_room seen
-    ∙ ap (λ (s : SpaceView). record s { prefix = p; layers = start_layer (reached dp p) ∷ []; ranks = map told_by n.nodes; first_reduced = None; held = length p }) c.self.view_is)) in
+    ≡ record c.args.self.now { prefix = p; layers = start_layer (reached dp p) ∷ []; told = map told_by n.nodes; first_reduced = None; held = length p } =
+    ap (λ (q : List ℕ). record (the_view i) { room = n.nodes_room; prefix = q; layers = shown_stack q (started i c.len-first.result n c.start.new.region); told = map told_by n.nodes; first_reduced = None; held = c.len-first.result }) written
+    ∙ (ap (λ (k : ℕ). record (the_view i) { room = n.nodes_room; prefix = p; layers = shown_stack p (started i c.len-first.result n c.start.new.region); told = map told_by n.nodes; first_reduced = None; held = k }) first
+    ∙ (ap₂ (λ (r : ℕ) (l : List (List DdNode)). record (the_view i) { room = r; prefix = p; layers = l; told = map told_by n.nodes; first_reduced = None; held = length p }) c.start.ensures.rooms.nodes_room seen
+    ∙ ap (λ (s : SpaceView). record s { prefix = p; layers = start_layer (reached dp p) ∷ []; told = map told_by n.nodes; first_reduced = None; held = length p }) c.self.view_is)) in
     let laws = laws_of g c.args.model.now in
     let rank : c.rank-rank.result ≡ dp.rank (length p) (state_of dp p) = c.rank-rank.ensures ∙ (ap (λ (k : ℕ). dp.rank k c.as_slice.result.now) first
     ∙ ap (dp.rank (length p)) (c.as_slice.ensures.value ∙ (ap (λ (s : SubView). s.subproblem.row) c.sub.view_is ∙ c.requires.row))) in
     let fits-rank : FitsSigned w64 c.rank-rank.result = search rules in
     let hash : c.hash-hash.result ≡ dp.hash (length p) (state_of dp p) = c.hash-hash.ensures ∙ (ap (λ (k : ℕ). dp.hash k c.as_slice-2.result.now) first
     ∙ ap (dp.hash (length p)) (c.as_slice-2.ensures.value ∙ (ap (λ (s : SubView). s.subproblem.row) c.sub.view_is ∙ c.requires.row))) in
-    let ranks : map told_by n.nodes ≡ told_of dp (length p) (state_of dp p) ∷ [] = ap (map told_by) c.start.ensures.node.nodes_are ∙ ap₂ (λ (r : ℤ) (h : ℕ). (let t : Told = record { rank = r; hash = h } in t) ∷ []) (to_z-of_z w64 c.rank-rank.result fits-rank ∙ rank) hash in
-    subst (IsUnderWay dp) (sym here) (start-under-way dp laws c.args.self.now p (map told_by n.nodes) (length p) c.requires.prepared c.requires.prefix ranks)
+    let told : map told_by n.nodes ≡ told_of dp (length p) (state_of dp p) ∷ [] = ap (map told_by) c.start.ensures.node.nodes_are ∙ ap₂ (λ (r : ℤ) (h : ℕ). (let t : Told = record { rank = r; hash = h } in t) ∷ []) (to_z-of_z w64 c.rank-rank.result fits-rank ∙ rank) hash in
+    subst (IsUnderWay dp) (sym here) (start-under-way dp laws c.args.self.now p (map told_by n.nodes) (length p) c.requires.prepared c.requires.prefix told)

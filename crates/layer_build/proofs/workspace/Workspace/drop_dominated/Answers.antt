@@ -87,9 +87,9 @@ returns-clause-layers g c =
     let is : HasChanged i at old _ x n r = record { place = c.place_above-at.ensures; lent = c.index_mut.ensures.value; above = above; rest = e.rest; rooms = e.next_rooms; redirects_stay = e.redirects } in
     let seen = struck-layers (unstruck dp) i h u.one None at old _ x n region r i.first_reduced is e.above e.next in
     let whole = changed-seen i at old _ x n region r i.first_reduced is (on_last_two (drop_dominated dp i.stack.last) (the_view i).layers) seen in
-    let here : the_view (changed i at x n region r i.first_reduced) ≡ record (the_view i) { layers = on_last_two (drop_dominated dp (last_depth (the_view i))) (the_view i).layers; ranks = map told_by n.nodes } =
-    whole ∙ ap (λ (k : ℕ). record (the_view i) { layers = on_last_two (drop_dominated dp k) (the_view i).layers; ranks = map told_by n.nodes }) (sym (deep i h)) in
-    here ∙ ap (λ (s : SpaceView). record s { layers = on_last_two (drop_dominated dp (last_depth s)) s.layers; ranks = map told_by n.nodes }) c.self.view_is
+    let here : the_view (changed i at x n region r i.first_reduced) ≡ record (the_view i) { layers = on_last_two (drop_dominated dp (last_depth (the_view i))) (the_view i).layers; told = map told_by n.nodes } =
+    whole ∙ ap (λ (k : ℕ). record (the_view i) { layers = on_last_two (drop_dominated dp k) (the_view i).layers; told = map told_by n.nodes }) (sym (deep i h)) in
+    here ∙ ap (λ (s : SpaceView). record s { layers = on_last_two (drop_dominated dp (last_depth s)) s.layers; told = map told_by n.nodes }) c.self.view_is
 
 pub returns-clause-under_way : goal.returns-clause-under_way
 returns-clause-under_way g c = λ t free.
@@ -105,15 +105,15 @@ returns-clause-under_way g c = λ t free.
     let given : HasGivenBack i n region = record { held = e.held; exchanged = e.exchanged; fewer = fewer-by (pruned_nodes (unstruck dp) i.stack.last None [] 0) i.stack.newest.nodes n.nodes e.next (λ l same. few-pruned (unstruck dp) i.stack.last None [] 0 l) } in
     let seen = struck-layers (unstruck dp) i h u.one None at old _ x n region r i.first_reduced is e.above e.next in
     let whole = changed-seen i at old _ x n region r i.first_reduced is (on_last_two (drop_dominated dp i.stack.last) (the_view i).layers) seen in
-    let here : the_view (changed i at x n region r i.first_reduced) ≡ record (the_view i) { layers = on_last_two (drop_dominated dp (last_depth (the_view i))) (the_view i).layers; ranks = map told_by n.nodes } =
-    whole ∙ ap (λ (k : ℕ). record (the_view i) { layers = on_last_two (drop_dominated dp k) (the_view i).layers; ranks = map told_by n.nodes }) (sym (deep i h)) in
+    let here : the_view (changed i at x n region r i.first_reduced) ≡ record (the_view i) { layers = on_last_two (drop_dominated dp (last_depth (the_view i))) (the_view i).layers; told = map told_by n.nodes } =
+    whole ∙ ap (λ (k : ℕ). record (the_view i) { layers = on_last_two (drop_dominated dp k) (the_view i).layers; told = map told_by n.nodes }) (sym (deep i h)) in
     let space = changed-space i h at old _ x n region r i.first_reduced is given (subst (HaveDepths i.stack.first) (sym seen) (prune-depths (unstruck dp) i.stack.last None i.stack.first _ h.depths)) in
     let ranked = stays (IsRanked dp i.stack.last) i.stack.newest.nodes n.nodes e.stay (ranked-of dp i.stack.last i.stack.newest.nodes (nodes-seen dp i h u)) in
     let deep-seen : (the_view (changed i at x n region r i.first_reduced)).layers ≡ on_last_two (drop_dominated dp (last_depth (the_view i))) (the_view i).layers = ap (λ (s : SpaceView). s.layers) here in
     let unstruck_now = subst (λ (s : SpaceView). NoneIsStruck dp (last_depth s) t (last_layer s.layers)) (sym c.self.view_is) free in
     let same = dropped-last dp (last_depth (the_view i)) t (the_view i).layers unstruck_now in
-    let ranks = map told_by n.nodes in
+    let told = map told_by n.nodes in
     subst (IsUnderWay dp) (sym here)
-    (subst (λ (ls : List (List DdNode)). IsUnderWay dp (record (the_view i) { layers = ls; ranks = ranks })) (sym same)
-    (pruned-under-way dp (the_view i) ranks t u
+    (subst (λ (ls : List (List DdNode)). IsUnderWay dp (record (the_view i) { layers = ls; told = told })) (sym same)
+    (pruned-under-way dp (the_view i) told t u
     (changed-ranks dp (prune dp (last_depth (the_view i)) t) i h u at x n region r i.first_reduced space (deep-seen ∙ same) ranked)))

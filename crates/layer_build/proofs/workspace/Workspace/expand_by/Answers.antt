@@ -134,7 +134,7 @@ returns-clause-layers g c =
     let e = c.expand_newest.ensures in
     let n = c.expand_newest.new.newest in
     let seen = expanded-seen (expanded_by c.args.strikes dp) i h low c.expand_newest.new.above n c.expand_newest.new.region c.place_of-at.result c.expand_newest.new.expansion c.place_of-at.ensures e.rest e.above e.next e.next_rooms in
-    seen ∙ ap (λ (s : SpaceView). record s { layers = expand_last (expanded_by c.args.strikes dp (last_depth s)) s.layers; ranks = map told_by n.nodes }) c.self.view_is
+    seen ∙ ap (λ (s : SpaceView). record s { layers = expand_last (expanded_by c.args.strikes dp (last_depth s)) s.layers; told = map told_by n.nodes }) c.self.view_is
 
 pub returns-clause-under_way : goal.returns-clause-under_way
 returns-clause-under_way g c =

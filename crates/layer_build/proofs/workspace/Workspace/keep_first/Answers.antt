@@ -84,10 +84,10 @@ returns-clause-layers c =
     let is : HasChanged i at old _ x n r = record { place = c.place_above-at.ensures; lent = c.index_mut.ensures.value; above = above; rest = e.rest; rooms = e.next_rooms; redirects_stay = refl } in
     let seen = changed-layers (keep_first i.width) i h less at old _ x n region r f is e.above (λ paths a. e.next paths) in
     let whole = changed-seen i at old _ x n region r f is (on_last_two (keep_first i.width) (the_view i).layers) seen in
-    let here : the_view (changed i at x n region r f) ≡ record (the_view i) { layers = on_last_two (keep_first i.width) (the_view i).layers; ranks = map told_by n.nodes; first_reduced = reduced_first i.first_reduced (last_depth (the_view i)) } =
-    whole ∙ (ap (λ (o : Option ℕ). record (the_view i) { layers = on_last_two (keep_first i.width) (the_view i).layers; ranks = map told_by n.nodes; first_reduced = o }) c.reduced_first-self-inside.ensures
-    ∙ ap (λ (k : ℕ). record (the_view i) { layers = on_last_two (keep_first i.width) (the_view i).layers; ranks = map told_by n.nodes; first_reduced = reduced_first i.first_reduced k }) (sym (deep i h))) in
-    here ∙ ap (λ (s : SpaceView). record s { layers = on_last_two (keep_first s.width) s.layers; ranks = map told_by n.nodes; first_reduced = reduced_first s.first_reduced (last_depth s) }) c.self.view_is
+    let here : the_view (changed i at x n region r f) ≡ record (the_view i) { layers = on_last_two (keep_first i.width) (the_view i).layers; told = map told_by n.nodes; first_reduced = reduced_first i.first_reduced (last_depth (the_view i)) } =
+    whole ∙ (ap (λ (o : Option ℕ). record (the_view i) { layers = on_last_two (keep_first i.width) (the_view i).layers; told = map told_by n.nodes; first_reduced = o }) c.reduced_first-self-inside.ensures
+    ∙ ap (λ (k : ℕ). record (the_view i) { layers = on_last_two (keep_first i.width) (the_view i).layers; told = map told_by n.nodes; first_reduced = reduced_first i.first_reduced k }) (sym (deep i h))) in
+    here ∙ ap (λ (s : SpaceView). record s { layers = on_last_two (keep_first s.width) s.layers; told = map told_by n.nodes; first_reduced = reduced_first s.first_reduced (last_depth s) }) c.self.view_is
 
 pub returns-clause-under_way : goal.returns-clause-under_way
 returns-clause-under_way c =
@@ -106,9 +106,9 @@ returns-clause-under_way c =
     let given : HasGivenBack i n region = record { held = e.held; exchanged = e.exchanged; fewer = fewer-by (take i.width) i.stack.newest.nodes n.nodes e.next (λ l same. (let count = count-seen i h in let short = length-take-le i.width l (omega arith) in omega arith)) } in
     let seen = changed-layers (keep_first i.width) i h less at old _ x n region r f is e.above (λ paths a. e.next paths) in
     let whole = changed-seen i at old _ x n region r f is (on_last_two (keep_first i.width) (the_view i).layers) seen in
-    let here : the_view (changed i at x n region r f) ≡ record (the_view i) { layers = on_last_two (keep_first i.width) (the_view i).layers; ranks = map told_by n.nodes; first_reduced = reduced_first i.first_reduced (last_depth (the_view i)) } =
-    whole ∙ (ap (λ (o : Option ℕ). record (the_view i) { layers = on_last_two (keep_first i.width) (the_view i).layers; ranks = map told_by n.nodes; first_reduced = o }) c.reduced_first-self-inside.ensures
-    ∙ ap (λ (k : ℕ). record (the_view i) { layers = on_last_two (keep_first i.width) (the_view i).layers; ranks = map told_by n.nodes; first_reduced = reduced_first i.first_reduced k }) (sym (deep i h))) in
+    let here : the_view (changed i at x n region r f) ≡ record (the_view i) { layers = on_last_two (keep_first i.width) (the_view i).layers; told = map told_by n.nodes; first_reduced = reduced_first i.first_reduced (last_depth (the_view i)) } =
+    whole ∙ (ap (λ (o : Option ℕ). record (the_view i) { layers = on_last_two (keep_first i.width) (the_view i).layers; told = map told_by n.nodes; first_reduced = o }) c.reduced_first-self-inside.ensures
+    ∙ ap (λ (k : ℕ). record (the_view i) { layers = on_last_two (keep_first i.width) (the_view i).layers; told = map told_by n.nodes; first_reduced = reduced_first i.first_reduced k }) (sym (deep i h))) in
     let space = changed-space i h at old _ x n region r f is given (subst (HaveDepths i.stack.first) (sym seen) (keep-depths i.width i.stack.first _ h.depths)) in
     λ other way.
     let v = under other i c.args.self.now c.self.view_is way in

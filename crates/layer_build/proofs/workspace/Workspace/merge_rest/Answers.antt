@@ -125,10 +125,10 @@ returns-clause-layers g c =
     let is : HasChanged i at old _ x n r = record { place = c.place_above-at.ensures; lent = c.index_mut.ensures.value; above = above; rest = e.rest; rooms = e.next_rooms; redirects_stay = e.redirects } in
     let seen = changed-layers (merge_rest dp i.stack.last i.width) i h less at old _ x n region r f is e.above (λ paths a. e.next paths) in
     let whole = changed-seen i at old _ x n region r f is (on_last_two (merge_rest dp i.stack.last i.width) (the_view i).layers) seen in
-    let here : the_view (changed i at x n region r f) ≡ record (the_view i) { layers = on_last_two (merge_rest dp (last_depth (the_view i)) i.width) (the_view i).layers; ranks = map told_by n.nodes; first_reduced = reduced_first i.first_reduced (last_depth (the_view i)) } =
-    whole ∙ (ap (λ (o : Option ℕ). record (the_view i) { layers = on_last_two (merge_rest dp i.stack.last i.width) (the_view i).layers; ranks = map told_by n.nodes; first_reduced = o }) c.reduced_first-self-inside.ensures
-    ∙ ap (λ (k : ℕ). record (the_view i) { layers = on_last_two (merge_rest dp k i.width) (the_view i).layers; ranks = map told_by n.nodes; first_reduced = reduced_first i.first_reduced k }) (sym (deep i h))) in
-    here ∙ ap (λ (s : SpaceView). record s { layers = on_last_two (merge_rest dp (last_depth s) s.width) s.layers; ranks = map told_by n.nodes; first_reduced = reduced_first s.first_reduced (last_depth s) }) c.self.view_is
+    let here : the_view (changed i at x n region r f) ≡ record (the_view i) { layers = on_last_two (merge_rest dp (last_depth (the_view i)) i.width) (the_view i).layers; told = map told_by n.nodes; first_reduced = reduced_first i.first_reduced (last_depth (the_view i)) } =
+    whole ∙ (ap (λ (o : Option ℕ). record (the_view i) { layers = on_last_two (merge_rest dp i.stack.last i.width) (the_view i).layers; told = map told_by n.nodes; first_reduced = o }) c.reduced_first-self-inside.ensures
+    ∙ ap (λ (k : ℕ). record (the_view i) { layers = on_last_two (merge_rest dp k i.width) (the_view i).layers; told = map told_by n.nodes; first_reduced = reduced_first i.first_reduced k }) (sym (deep i h))) in
+    here ∙ ap (λ (s : SpaceView). record s { layers = on_last_two (merge_rest dp (last_depth s) s.width) s.layers; told = map told_by n.nodes; first_reduced = reduced_first s.first_reduced (last_depth s) }) c.self.view_is
 
 pub returns-clause-under_way : goal.returns-clause-under_way
 returns-clause-under_way g c =
@@ -147,9 +147,9 @@ returns-clause-under_way g c =
     let given : HasGivenBack i n region = record { held = e.held; exchanged = e.exchanged; fewer = fewer-by (merged_layer dp i.stack.last i.width) i.stack.newest.nodes n.nodes e.next (λ l same. (let count = count-seen i h in let some = u.prepared.width.positive in let short = merged-length dp i.stack.last i.width l some (omega arith) in omega arith)) } in
     let seen = changed-layers (merge_rest dp i.stack.last i.width) i h less at old _ x n region r f is e.above (λ paths a. e.next paths) in
     let whole = changed-seen i at old _ x n region r f is (on_last_two (merge_rest dp i.stack.last i.width) (the_view i).layers) seen in
-    let here : the_view (changed i at x n region r f) ≡ record (the_view i) { layers = on_last_two (merge_rest dp (last_depth (the_view i)) i.width) (the_view i).layers; ranks = map told_by n.nodes; first_reduced = reduced_first i.first_reduced (last_depth (the_view i)) } =
-    whole ∙ (ap (λ (o : Option ℕ). record (the_view i) { layers = on_last_two (merge_rest dp i.stack.last i.width) (the_view i).layers; ranks = map told_by n.nodes; first_reduced = o }) c.reduced_first-self-inside.ensures
-    ∙ ap (λ (k : ℕ). record (the_view i) { layers = on_last_two (merge_rest dp k i.width) (the_view i).layers; ranks = map told_by n.nodes; first_reduced = reduced_first i.first_reduced k }) (sym (deep i h))) in
+    let here : the_view (changed i at x n region r f) ≡ record (the_view i) { layers = on_last_two (merge_rest dp (last_depth (the_view i)) i.width) (the_view i).layers; told = map told_by n.nodes; first_reduced = reduced_first i.first_reduced (last_depth (the_view i)) } =
+    whole ∙ (ap (λ (o : Option ℕ). record (the_view i) { layers = on_last_two (merge_rest dp i.stack.last i.width) (the_view i).layers; told = map told_by n.nodes; first_reduced = o }) c.reduced_first-self-inside.ensures
+    ∙ ap (λ (k : ℕ). record (the_view i) { layers = on_last_two (merge_rest dp k i.width) (the_view i).layers; told = map told_by n.nodes; first_reduced = reduced_first i.first_reduced k }) (sym (deep i h))) in
     let space = changed-space i h at old _ x n region r f is given (subst (HaveDepths i.stack.first) (sym seen) (merge-depths dp i.stack.last i.width i.stack.first _ h.depths)) in
     let deep-seen : (the_view (changed i at x n region r f)).layers ≡ on_last_two (merge_rest dp (last_depth (the_view i)) i.width) (the_view i).layers = ap (λ (s : SpaceView). s.layers) here in
     subst (IsUnderWay dp) (sym here)

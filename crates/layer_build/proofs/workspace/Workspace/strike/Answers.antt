@@ -83,9 +83,9 @@ returns-clause-layers g c =
     let is : HasChanged i at old _ x n r = record { place = c.place_above-at.ensures; lent = c.index_mut.ensures.value; above = above; rest = e.rest; rooms = e.next_rooms; redirects_stay = e.redirects } in
     let seen = struck-layers dp i h u.one c.args.threshold at old _ x n region r i.first_reduced is e.above e.next in
     let whole = changed-seen i at old _ x n region r i.first_reduced is (on_last_two (prune dp i.stack.last c.args.threshold) (the_view i).layers) seen in
-    let here : the_view (changed i at x n region r i.first_reduced) ≡ record (the_view i) { layers = on_last_two (prune dp (last_depth (the_view i)) c.args.threshold) (the_view i).layers; ranks = map told_by n.nodes } =
-    whole ∙ ap (λ (k : ℕ). record (the_view i) { layers = on_last_two (prune dp k c.args.threshold) (the_view i).layers; ranks = map told_by n.nodes }) (sym (deep i h)) in
-    here ∙ ap (λ (s : SpaceView). record s { layers = on_last_two (prune dp (last_depth s) c.args.threshold) s.layers; ranks = map told_by n.nodes }) c.self.view_is
+    let here : the_view (changed i at x n region r i.first_reduced) ≡ record (the_view i) { layers = on_last_two (prune dp (last_depth (the_view i)) c.args.threshold) (the_view i).layers; told = map told_by n.nodes } =
+    whole ∙ ap (λ (k : ℕ). record (the_view i) { layers = on_last_two (prune dp k c.args.threshold) (the_view i).layers; told = map told_by n.nodes }) (sym (deep i h)) in
+    here ∙ ap (λ (s : SpaceView). record s { layers = on_last_two (prune dp (last_depth s) c.args.threshold) s.layers; told = map told_by n.nodes }) c.self.view_is
 
 pub returns-clause-under_way : goal.returns-clause-under_way
 returns-clause-under_way g c =
@@ -101,8 +101,8 @@ returns-clause-under_way g c =
     let given : HasGivenBack i n region = record { held = e.held; exchanged = e.exchanged; fewer = fewer-by (pruned_nodes dp i.stack.last c.args.threshold [] 0) i.stack.newest.nodes n.nodes e.next (λ l same. few-pruned dp i.stack.last c.args.threshold [] 0 l) } in
     let seen = struck-layers dp i h u.one c.args.threshold at old _ x n region r i.first_reduced is e.above e.next in
     let whole = changed-seen i at old _ x n region r i.first_reduced is (on_last_two (prune dp i.stack.last c.args.threshold) (the_view i).layers) seen in
-    let here : the_view (changed i at x n region r i.first_reduced) ≡ record (the_view i) { layers = on_last_two (prune dp (last_depth (the_view i)) c.args.threshold) (the_view i).layers; ranks = map told_by n.nodes } =
-    whole ∙ ap (λ (k : ℕ). record (the_view i) { layers = on_last_two (prune dp k c.args.threshold) (the_view i).layers; ranks = map told_by n.nodes }) (sym (deep i h)) in
+    let here : the_view (changed i at x n region r i.first_reduced) ≡ record (the_view i) { layers = on_last_two (prune dp (last_depth (the_view i)) c.args.threshold) (the_view i).layers; told = map told_by n.nodes } =
+    whole ∙ ap (λ (k : ℕ). record (the_view i) { layers = on_last_two (prune dp k c.args.threshold) (the_view i).layers; told = map told_by n.nodes }) (sym (deep i h)) in
     let space = changed-space i h at old _ x n region r i.first_reduced is given (subst (HaveDepths i.stack.first) (sym seen) (prune-depths dp i.stack.last c.args.threshold i.stack.first _ h.depths)) in
     let ranked = stays (IsRanked dp i.stack.last) i.stack.newest.nodes n.nodes e.stay (ranked-of dp i.stack.last i.stack.newest.nodes (nodes-seen dp i h u)) in
     let deep-seen : (the_view (changed i at x n region r i.first_reduced)).layers ≡ on_last_two (prune dp (last_depth (the_view i)) c.args.threshold) (the_view i).layers = ap (λ (s : SpaceView). s.layers) here in

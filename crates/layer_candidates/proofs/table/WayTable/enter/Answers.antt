@@ -10,8 +10,8 @@ returns-clause-table c = λ row live t.
     let t0 = a.self.now in
     let size : c.len.result ≡ length t0.heads.items = search rules in
     let count : c.len-count.result ≡ length t0.ways.items = search rules in
-    let at : c.slot-at.result ≡ slot_of a.fold (length t0.heads.items) = c.slot-at.ensures.slot ∙ ap (slot_of a.fold) size in
+    let at : c.slot-at.result ≡ slot_of a.hash (length t0.heads.items) = c.slot-at.ensures.slot ∙ ap (slot_of a.hash) size in
     let first : c.slot-at.result < length t0.heads.items = subst (λ (n : ℕ). c.slot-at.result < n) size c.slot-at.ensures.within in
-    let less : slot_of a.fold (length t0.heads.items) < length t0.heads.items = subst (λ (k : ℕ). k < length t0.heads.items) at first in
+    let less : slot_of a.hash (length t0.heads.items) < length t0.heads.items = subst (λ (k : ℕ). k < length t0.heads.items) at first in
     let before : c.index.result.now ≡ get_or t0.heads.items c.slot-at.result 0 = get_or_read_under t0.heads.items c.slot-at.result (length t0.heads.items) c.index.result.now 0 c.index.ensures first refl in
-    rw (before, at, count, add-one (length t0.ways.items)) (inserted row live (length t0.ways.items) a.fold t0.folds.items t0.heads.items t0.next.items t c.requires.folds c.requires.next less)
+    rw (before, at, count, add-one (length t0.ways.items)) (inserted row live (length t0.ways.items) a.hash t0.hashes.items t0.heads.items t0.next.items t c.requires.hashes c.requires.next less)

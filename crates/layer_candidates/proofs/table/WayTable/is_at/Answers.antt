@@ -9,5 +9,5 @@ use Rattle.layer_candidates.proofs.table.WayTable.is_at.Goals as goal
 pub live_cells_of-requires-clause-row : goal.live_cells_of-requires-clause-row
 live_cells_of-requires-clause-row c =
     let a = c.args in
-    let is : c.index-then-index-fold.result.now ≡ way_at a.self.now.ways.items a.place = get_or_read_under a.self.now.ways.items a.place (length a.self.now.ways.items) c.index-then-index-fold.result.now _ c.index-then-index-fold.ensures c.requires.way refl in
+    let is : c.index-then-index-hash.result.now ≡ way_at a.self.now.ways.items a.place = get_or_read_under a.self.now.ways.items a.place (length a.self.now.ways.items) c.index-then-index-hash.result.now _ c.index-then-index-hash.ensures c.requires.way refl in
     subst (λ (w : Way). IsLive a.region.now w.row) (sym is) (way-each (IsLive a.region.now) a.self.now.ways.items a.place c.requires.held c.requires.way)

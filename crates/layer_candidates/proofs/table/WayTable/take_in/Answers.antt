@@ -2,7 +2,7 @@ use Rattle.std.proofs.Common.{rules, ◌≡◌, ℕ, ℤ, ◌<◌, ◌∷◌, �
 use Rattle.std.proofs.lemmas.List.{with_items_is}
 use Rattle.layer_candidates.specs.declared.way.Way.{Way}
 use Rattle.layer_candidates.specs.HeldRows.{held_row}
-use Rattle.layer_candidates.specs.Table.{HaveFold, IsRowFound, IsPlaced}
+use Rattle.layer_candidates.specs.Table.{HaveHash, IsRowFound, IsPlaced}
 use Rattle.layer_candidates.specs.Ways.{rows_of, way_row, all_reached, bettered, AreJoined}
 use Rattle.layer_candidates.proofs.Joined.{zeros-same, pushed-joined, pushed-list, rows-bettered, length-bettered, bettered-before, bettered-joined, bettered-list, strict}
 use Rattle.layer_candidates.proofs.table.WayTable.take_in.Goals as goal
@@ -12,10 +12,10 @@ found : (region : _) (live : ℕ) (ways : List Way) (row new : List ℤ) (place 
     → IsRowFound (way_row region ways) live (length ways) new place → IsRowFound (way_row region ways) live (length ways) (drop live row) place
 found region live ways row new place is h = subst (λ (n : List ℤ). IsRowFound (way_row region ways) live (length ways) n place) is h
 
-pub find-place-requires-clause-fold : goal.find-place-requires-clause-fold
-find-place-requires-clause-fold c =
+pub find-place-requires-clause-hash : goal.find-place-requires-clause-hash
+find-place-requires-clause-hash c =
     let a = c.args in
-    subst (λ (n : List ℤ). HaveFold (way_row a.region.now a.self.now.ways.items) a.self.now.live (length a.self.now.ways.items) n a.way.hash a.self.now.folds.items) (sym c.live_cells_of-new.ensures) c.requires.hash
+    subst (λ (n : List ℤ). HaveHash (way_row a.region.now a.self.now.ways.items) a.self.now.live (length a.self.now.ways.items) n a.way.hash a.self.now.hashes.items) (sym c.live_cells_of-new.ensures) c.requires.hash
 
 pub returns-then-place-count-clause-joined : goal.returns-then-place-count-clause-joined
 returns-then-place-count-clause-joined c = λ dp k j one.
@@ -26,9 +26,9 @@ returns-then-place-count-clause-joined c = λ dp k j one.
     let h = found a.region.now a.self.now.live ways row c.live_cells_of-new.result.now c.find-place.result c.live_cells_of-new.ensures c.find-place.ensures in
     let new = way_row a.region.now (ways ++ a.way ∷ []) in
     let items : c.push_reserved.new.self.items ≡ ways ++ a.way ∷ [] = c.push_reserved.ensures.items ∙ ap (λ v. v.items ++ a.way ∷ []) c.enter.ensures.ways in
-    subst (λ v. AreJoined dp k (way_row a.region.now c.push_reserved.new.self.items) v c.push_reserved.new.self.items c.enter.new.self.folds.items c.enter.new.self.heads.items c.enter.new.self.next.items) (sym c.enter.ensures.live)
-    (subst (λ l. AreJoined dp k (way_row a.region.now l) a.self.now.live l c.enter.new.self.folds.items c.enter.new.self.heads.items c.enter.new.self.next.items) (sym items)
-    (pushed-joined a.region.now ways a.way dp k a.self.now.live a.self.now.folds.items a.self.now.heads.items a.self.now.next.items c.enter.new.self.folds.items c.enter.new.self.heads.items c.enter.new.self.next.items (let hold = c.requires.room.ways.folds_hold in omega arith) c.enter.ensures.folds (h.none (c.if-place-count.true ∙ size)) j one
+    subst (λ v. AreJoined dp k (way_row a.region.now c.push_reserved.new.self.items) v c.push_reserved.new.self.items c.enter.new.self.hashes.items c.enter.new.self.heads.items c.enter.new.self.next.items) (sym c.enter.ensures.live)
+    (subst (λ l. AreJoined dp k (way_row a.region.now l) a.self.now.live l c.enter.new.self.hashes.items c.enter.new.self.heads.items c.enter.new.self.next.items) (sym items)
+    (pushed-joined a.region.now ways a.way dp k a.self.now.live a.self.now.hashes.items a.self.now.heads.items a.self.now.next.items c.enter.new.self.hashes.items c.enter.new.self.heads.items c.enter.new.self.next.items (let hold = c.requires.room.ways.hashes_hold in omega arith) c.enter.ensures.hashes (h.none (c.if-place-count.true ∙ size)) j one
     (λ t. c.enter.ensures.table new a.self.now.live t)))
 
 pub returns-then-place-count-clause-list : goal.returns-then-place-count-clause-list
@@ -65,8 +65,8 @@ items_of c =
 pub returns-else-place-count-clause-joined : goal.returns-else-place-count-clause-joined
 returns-else-place-count-clause-joined c = λ dp k j one.
     let a = c.args in
-    subst (λ l. AreJoined dp k (way_row a.region.now l) a.self.now.live l a.self.now.folds.items a.self.now.heads.items a.self.now.next.items) (sym (items_of c))
-    (bettered-joined a.region.now a.self.now.ways.items a.way c.find-place.result (less_of c) (same_of c) dp k a.self.now.live a.self.now.folds.items a.self.now.heads.items a.self.now.next.items j one)
+    subst (λ l. AreJoined dp k (way_row a.region.now l) a.self.now.live l a.self.now.hashes.items a.self.now.heads.items a.self.now.next.items) (sym (items_of c))
+    (bettered-joined a.region.now a.self.now.ways.items a.way c.find-place.result (less_of c) (same_of c) dp k a.self.now.live a.self.now.hashes.items a.self.now.heads.items a.self.now.next.items j one)
 
 pub returns-else-place-count-clause-list : goal.returns-else-place-count-clause-list
 returns-else-place-count-clause-list c = λ paths apart.

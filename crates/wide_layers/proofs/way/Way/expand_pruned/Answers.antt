@@ -8,5 +8,5 @@ pub returns-in-Wide-clause-layers : goal.returns-in-Wide-clause-layers
 returns-in-Wide-clause-layers g c =
     let s = c.args.space.now in let e = c.expand_pruned-in-Wide in
     e.ensures.layers
-    ∙ ap (λ (dp : Dp). record s { layers = expand_last (λ layer. prune dp (last_depth s + 1) c.args.threshold (expand dp (last_depth s) layer)) s.layers; ranks = e.new.self.ranks })
+    ∙ ap (λ (dp : Dp). record s { layers = expand_last (λ layer. prune dp (last_depth s + 1) c.args.threshold (expand dp (last_depth s) layer)) s.layers; told = e.new.self.told })
     (ap (λ m. g.M.DpModel.meaning (g.M.DpModel.numbers m)) c.new-recalled.ensures)
