@@ -7,7 +7,7 @@ ghost use Rattle.bound_cover.specs.InTurn.{begun, taken, concluded};
 ghost use Rattle.bound_cover.specs.Proved.{IsReportedBest, IsReportedWithin};
 ghost use Rattle.bound_cover.specs.declared.cover.Verdict.TheVariants.{Accepted};
 
-use crate::checks::{check, check_rows, claim_of, solution_fault};
+use crate::checks::{Reported, check, check_rows, claim_of, solution_fault};
 use crate::cover::{Verdict, Why};
 use crate::layer_tests::{LayerTests, last_fault, layer_fault};
 use crate::storing::Cover;
@@ -83,16 +83,14 @@ impl Checker {
         ensures sound { result ≡ Accepted → within ≡ pos 0 → IsReportedBest (M.meaning (M.numbers model.now)) assignment.now best }
         ensures same { self.new ≡ self.old }
     {
-        check(
-            model,
+        let reported = Reported {
             best,
             within,
             assignment,
-            cover,
-            &mut self.root,
-            &mut self.step,
-        )
+        };
+        check(model, reported, cover, &mut self.root, &mut self.step)
     }
+
     /// Begins the tests of a cover whose layers come one after another: tests the assignment and its value.
     ///
     /// The checker was prepared for the model, and `within` is a distance. It takes no memory.
@@ -138,15 +136,7 @@ impl Checker {
         ensures same { self.new ≡ self.old }
     {
         if tests.why.is_none() {
-            tests.why = layer_fault(
-                model,
-                tests.claim,
-                tests.count,
-                &tests.here,
-                &next,
-                &mut self.root,
-                &mut self.step,
-            );
+            tests.why = layer_fault(model, tests, &next, &mut self.root, &mut self.step);
         }
         tests.count += 1;
         mem::replace(&mut tests.here, next)

@@ -2,12 +2,13 @@
 
 ghost use Rattle.std.specs.Prelude.{◌≡◌, ℕ, ◌<◌, ◌≤◌, ◌+◌, ◌^◌, ℤ, pos, ◌+ℤ◌, ◌≤ℤ◌, List, length, true, slice_get, Option, Some, None, option_map, IsTrue, IfSome, int_le};
 ghost use Rattle.dp_model.specs.Distances.{IsDistance};
-ghost use Rattle.dp_model.specs.Dp.{Dp, IsAllowed};
+ghost use Rattle.dp_model.specs.Dp.{Dp};
 ghost use Rattle.dp_model.specs.Gaps.{IsStateOf};
 ghost use Rattle.dp_model.specs.Numbers.{add_some};
 ghost use Rattle.bound_cover.specs.Covers.{CoverRow};
 ghost use Rattle.bound_cover.specs.Walking.{least_after, lesser, at_hand, decision_of, step_fault};
-ghost use Rattle.bound_cover.specs.Tests.{is_at_most, is_state_row, are_states, arc_fault, tested, decisions_fault, row_fault};
+ghost use Rattle.bound_cover.specs.Tests.{is_at_most, is_state_row, are_states, arc_fault, tested, decisions_fault, last_fault, row_fault};
+ghost use Rattle.bound_cover.specs.Placed.{AreStatesIf, IsInner, IsTransition};
 ghost use Rattle.bound_cover.specs.Stored.{shown_row, to_row_fault};
 ghost use Rattle.bound_cover.specs.Verdicts.{rows_fault, layers_fault, has_root, root_test, checked_rows, worth, solution_fault, claim_of, verdict};
 ghost use Rattle.bound_cover.specs.Clamping.{IsWritable};
@@ -16,6 +17,7 @@ ghost use Rattle.bound_cover.specs.declared.cover.Verdict.TheVariants.{Accepted}
 ghost use Rattle.bound_cover.specs.Exploring.{layer_of};
 
 use crate::cover::{CoverArc, Verdict, Why};
+use crate::placed::{PlacedRow, Transition};
 use crate::storing::{Cover, LayerRows, RowRef};
 use dp_model::{DpModel, walk};
 
@@ -26,6 +28,14 @@ pub trait Rows {
     /// The row at a place, or `None` where there is none.
     fn row(&self, place: u32) -> Option<RowRef<'_>>
         ensures { option_map shown_row result ≡ slice_get (rows self.now) place };
+}
+
+/// The rows of the layer that arcs lead to.
+#[derive(Drop)]
+pub struct NextLayer<'n, N: Rows> {
+    pub rows: &'n N,
+    /// Whether all of them are known to be states; it may be `false` where they are.
+    pub known: bool,
 }
 
 /// Whether the words are a state of the layer.
@@ -64,51 +74,28 @@ fn is_within(gain: i64, gap: i64, bound: Option<i64>, most: Option<i64>) -> bool
 #[inline(always)]
 fn row_arc_fault<M: DpModel>(
     model: &M,
-    k: usize,
-    i: u32,
-    gain: i64,
-    step: &[i64],
-    bound: Option<i64>,
-    decision: u32,
+    at: PlacedRow<'_>,
+    transition: Transition<'_>,
     next: Option<RowRef<'_>>,
     known: bool,
 ) -> Option<Why>
-    requires layer { k < (M.meaning (M.numbers model.now)).vars }
-    requires states { IfSome next (λ r. known ≡ true → is_state_row (M.meaning (M.numbers model.now)) (k + 1) r.words.now ≡ true) }
-    requires step { IsStateOf (M.meaning (M.numbers model.now)) (k + 1) step.now }
-    ensures { result ≡ to_row_fault (M.meaning (M.numbers model.now)) k i gain step.now bound decision (option_map shown_row next.entry) }
+    requires layer { at.layer < (M.meaning (M.numbers model.now)).vars }
+    requires states { IfSome next (λ r. known ≡ true → is_state_row (M.meaning (M.numbers model.now)) (at.layer + 1) r.words.now ≡ true) }
+    requires step { IsStateOf (M.meaning (M.numbers model.now)) (at.layer + 1) transition.state.now }
+    ensures { result ≡ to_row_fault (M.meaning (M.numbers model.now)) at.entry.layer at.entry.number transition.entry.gain transition.entry.state.now at.entry.row.bound transition.entry.decision (option_map shown_row next.entry) }
 {
-    let layer = k as u32;
+    let k = at.layer as usize + 1;
     let Some(next) = next else {
-        return Some(Why::Target {
-            layer,
-            row: i,
-            decision,
-        });
+        return Some(at.why_target(transition.decision));
     };
-    if !known && !is_state_row(model, k + 1, next.words) {
-        return Some(Why::Target {
-            layer,
-            row: i,
-            decision,
-        });
+    if !known && !is_state_row(model, k, next.words) {
+        return Some(at.why_target(transition.decision));
     }
-    let Some(gap) = model.gap(k + 1, next.words, step) else {
-        return Some(Why::Target {
-            layer,
-            row: i,
-            decision,
-        });
+    let Some(gap) = model.gap(k, next.words, transition.state) else {
+        return Some(at.why_target(transition.decision));
     };
-    if is_within(gain, gap, next.bound, bound) {
-        None
-    } else {
-        Some(Why::Arc {
-            layer,
-            row: i,
-            decision,
-        })
-    }
+    let within = is_within(transition.gain, gap, next.bound, at.row.bound);
+    at.bound_fault(transition.decision, within)
 }
 
 /// Whether two numbers together are at most another.
@@ -131,51 +118,32 @@ fn is_rough_within(gain: i64, rough: Option<i64>, most: Option<i64>) -> bool
     is_pair_within(gain, rough, most)
 }
 
-/// The first failure of an arc of a decision that is allowed. `step` is written over.
+/// The first failure of an arc of a decision that is allowed.
 #[inline(always)]
 fn arc_fault<M: DpModel, N: Rows>(
     model: &M,
-    next: &N,
-    k: usize,
-    i: u32,
-    row: RowRef<'_>,
-    arc: CoverArc,
-    step: &mut [i64],
-    known: bool,
+    next: &NextLayer<'_, N>,
+    at: PlacedRow<'_>,
+    transition: Transition<'_>,
+    target: Option<u32>,
 ) -> Option<Why>
-    requires states { known ≡ true → are_states (M.meaning (M.numbers model.now)) (k + 1) (N.rows next.now) ≡ true }
-    requires state { IsTrue ((M.meaning (M.numbers model.now)).is_state k row.words.now) }
-    requires allowed { IsAllowed (M.meaning (M.numbers model.now)) k row.words.now arc.decision }
-    requires cells { length step.old ≡ (M.meaning (M.numbers model.now)).words }
-    ensures { result ≡ arc_fault (M.meaning (M.numbers model.now)) k i (N.rows next.now) (shown_row row.entry) arc.decision arc.target }
+    requires states { AreStatesIf next.now.known (M.meaning (M.numbers model.now)) (at.layer + 1) (N.rows next.now.rows.now) }
+    requires layer { at.layer < (M.meaning (M.numbers model.now)).vars }
+    requires state { IsStateOf (M.meaning (M.numbers model.now)) (at.layer + 1) transition.state.now }
+    requires transition { IsTransition (M.meaning (M.numbers model.now)) at.layer at.row.words.now transition }
+    ensures { result ≡ arc_fault (M.meaning (M.numbers model.now)) at.entry.layer at.entry.number (N.rows next.now.rows.now) (shown_row at.entry.row) transition.entry.decision target }
 {
-    let decision = arc.decision;
-    let gain = model.gain(k, row.words, decision);
-    model.step(k, row.words, decision, step);
-    match arc.target {
+    match target {
         None => {
-            let rough = model.rough(k + 1, step);
-            if is_rough_within(gain, rough, row.bound) {
-                None
-            } else {
-                Some(Why::Arc {
-                    layer: k as u32,
-                    row: i,
-                    decision,
-                })
-            }
+            let rough = model.rough_by_rank(
+                at.layer as usize + 1,
+                transition.state,
+                transition.rank,
+            );
+            let within = is_rough_within(transition.gain, rough, at.row.bound);
+            at.bound_fault(transition.decision, within)
         }
-        Some(place) => row_arc_fault(
-            model,
-            k,
-            i,
-            gain,
-            step,
-            row.bound,
-            decision,
-            next.row(place),
-            known,
-        ),
+        Some(place) => row_arc_fault(model, at, transition, next.rows.row(place), next.known),
     }
 }
 
@@ -215,41 +183,41 @@ fn arc_at(arcs: &[CoverArc], place: usize, decision: u32) -> Option<CoverArc>
     }
 }
 
-/// The failure of a decision with its arc or none; none where it is neither allowed nor listed.
+/// The failure of a decision with its arc or none; none where it is neither allowed nor listed. `step` is written over.
 #[inline(always)]
 fn step_fault<M: DpModel, N: Rows>(
     model: &M,
-    next: &N,
-    k: usize,
-    i: u32,
-    row: RowRef<'_>,
+    next: &NextLayer<'_, N>,
+    at: PlacedRow<'_>,
     decision: u32,
     arc: Option<CoverArc>,
     step: &mut [i64],
-    known: bool,
 ) -> Option<Why>
-    requires states { known ≡ true → are_states (M.meaning (M.numbers model.now)) (k + 1) (N.rows next.now) ≡ true }
-    requires layer { k < (M.meaning (M.numbers model.now)).vars }
-    requires choice { decision < (M.meaning (M.numbers model.now)).choices k }
-    requires state { IsTrue ((M.meaning (M.numbers model.now)).is_state k row.words.now) }
+    requires states { AreStatesIf next.now.known (M.meaning (M.numbers model.now)) (at.layer + 1) (N.rows next.now.rows.now) }
+    requires inner { IsInner (M.meaning (M.numbers model.now)) at }
+    requires choice { decision < (M.meaning (M.numbers model.now)).choices at.layer }
     requires own { IfSome arc (λ a. a.decision ≡ decision) }
     requires cells { length step.old ≡ (M.meaning (M.numbers model.now)).words }
-    ensures { result ≡ step_fault (M.meaning (M.numbers model.now)) k i (N.rows next.now) (shown_row row.entry) decision ((M.meaning (M.numbers model.now)).allowed k row.entry.words.now decision) arc }
+    ensures { result ≡ step_fault (M.meaning (M.numbers model.now)) at.entry.layer at.entry.number (N.rows next.now.rows.now) (shown_row at.entry.row) decision ((M.meaning (M.numbers model.now)).allowed at.entry.layer at.entry.row.words.now decision) arc }
 {
-    let missing = Why::Target {
-        layer: k as u32,
-        row: i,
-        decision,
-    };
-    if !model.allowed(k, row.words, decision) {
+    let Some(extended) = model.extend(at.layer as usize, at.row.words, at.rank, decision, 0, step)
+    else {
         return match arc {
             None => None,
-            Some(_) => Some(missing),
+            Some(_) => Some(at.why_target(decision)),
         };
-    }
+    };
     match arc {
-        None => Some(missing),
-        Some(arc) => arc_fault(model, next, k, i, row, arc, step, known),
+        None => Some(at.why_target(decision)),
+        Some(arc) => {
+            let transition = Transition {
+                decision,
+                gain: extended.gain,
+                state: step,
+                rank: extended.rank,
+            };
+            arc_fault(model, next, at, transition, arc.target)
+        }
     }
 }
 
@@ -266,23 +234,19 @@ fn least_left(arcs: &[CoverArc], place: usize, following: Option<u32>) -> Option
 /// Whether each decision of a row passes with its arc, where all arcs stand in order. `step` is written over.
 fn all_pass<M: DpModel, N: Rows>(
     model: &M,
-    next: &N,
-    k: usize,
-    i: u32,
-    row: RowRef<'_>,
+    next: &NextLayer<'_, N>,
+    at: PlacedRow<'_>,
     step: &mut [i64],
-    known: bool,
 ) -> bool
-    requires states { known ≡ true → are_states (M.meaning (M.numbers model.now)) (k + 1) (N.rows next.now) ≡ true }
-    requires layer { k < (M.meaning (M.numbers model.now)).vars }
-    requires state { IsTrue ((M.meaning (M.numbers model.now)).is_state k row.words.now) }
+    requires states { AreStatesIf next.now.known (M.meaning (M.numbers model.now)) (at.layer + 1) (N.rows next.now.rows.now) }
+    requires inner { IsInner (M.meaning (M.numbers model.now)) at }
     requires cells { length step.old ≡ (M.meaning (M.numbers model.now)).words }
-    ensures { result ≡ true → decisions_fault (M.meaning (M.numbers model.now)) k i (N.rows next.now) (shown_row row.entry) row.entry.arcs.now (tested (M.meaning (M.numbers model.now)) k row.entry.words.now row.entry.arcs.now) ≡ None }
+    ensures { result ≡ true → decisions_fault (M.meaning (M.numbers model.now)) at.entry.layer at.entry.number (N.rows next.now.rows.now) (shown_row at.entry.row) at.entry.row.arcs.now (tested (M.meaning (M.numbers model.now)) at.entry.layer at.entry.row.words.now at.entry.row.arcs.now) ≡ None }
 {
     let mut place = 0;
-    'decisions: for decision in 0..model.choices(k) {
-        let arc = arc_at(row.arcs, place, decision);
-        let why = step_fault(model, next, k, i, row, decision, arc, step, known);
+    'decisions: for decision in 0..model.choices(at.layer as usize) {
+        let arc = arc_at(at.row.arcs, place, decision);
+        let why = step_fault(model, next, at, decision, arc, step);
         if why.is_some() {
             return false;
         }
@@ -290,7 +254,7 @@ fn all_pass<M: DpModel, N: Rows>(
             place += 1;
         }
     }
-    place == row.arcs.len()
+    place == at.row.arcs.len()
 }
 
 /// The first failure of the decisions of a row with arcs, by a walk that knows which one stands out of order. `step` is written over.
@@ -298,32 +262,23 @@ fn all_pass<M: DpModel, N: Rows>(
 #[inline(never)]
 fn first_decision_fault<M: DpModel, N: Rows>(
     model: &M,
-    next: &N,
-    k: usize,
-    i: u32,
-    row: RowRef<'_>,
+    next: &NextLayer<'_, N>,
+    at: PlacedRow<'_>,
     step: &mut [i64],
-    known: bool,
 ) -> Option<Why>
-    requires states { known ≡ true → are_states (M.meaning (M.numbers model.now)) (k + 1) (N.rows next.now) ≡ true }
-    requires layer { k < (M.meaning (M.numbers model.now)).vars }
-    requires state { IsTrue ((M.meaning (M.numbers model.now)).is_state k row.words.now) }
+    requires states { AreStatesIf next.now.known (M.meaning (M.numbers model.now)) (at.layer + 1) (N.rows next.now.rows.now) }
+    requires inner { IsInner (M.meaning (M.numbers model.now)) at }
     requires cells { length step.old ≡ (M.meaning (M.numbers model.now)).words }
-    ensures { result ≡ decisions_fault (M.meaning (M.numbers model.now)) k i (N.rows next.now) (shown_row row.entry) row.entry.arcs.now (tested (M.meaning (M.numbers model.now)) k row.entry.words.now row.entry.arcs.now) }
+    ensures { result ≡ decisions_fault (M.meaning (M.numbers model.now)) at.entry.layer at.entry.number (N.rows next.now.rows.now) (shown_row at.entry.row) at.entry.row.arcs.now (tested (M.meaning (M.numbers model.now)) at.entry.layer at.entry.row.words.now at.entry.row.arcs.now) }
 {
-    let layer = k as u32;
-    let following = least_after(row.arcs);
+    let following = least_after(at.row.arcs);
     let mut place = 0;
-    'decisions: for decision in 0..model.choices(k) {
+    'decisions: for decision in 0..model.choices(at.layer as usize) {
         if following == Some(decision) {
-            return Some(Why::Target {
-                layer,
-                row: i,
-                decision,
-            });
+            return Some(at.why_target(decision));
         }
-        let arc = arc_at(row.arcs, place, decision);
-        let why = step_fault(model, next, k, i, row, decision, arc, step, known);
+        let arc = arc_at(at.row.arcs, place, decision);
+        let why = step_fault(model, next, at, decision, arc, step);
         if why.is_some() {
             return why;
         }
@@ -331,12 +286,8 @@ fn first_decision_fault<M: DpModel, N: Rows>(
             place += 1;
         }
     }
-    match least_left(row.arcs, place, following) {
-        Some(decision) => Some(Why::Target {
-            layer,
-            row: i,
-            decision,
-        }),
+    match least_left(at.row.arcs, place, following) {
+        Some(decision) => Some(at.why_target(decision)),
         None => None,
     }
 }
@@ -344,23 +295,19 @@ fn first_decision_fault<M: DpModel, N: Rows>(
 /// The first failure of the decisions of a row with arcs. Most rows have none, which takes one walk to see. `step` is written over.
 fn decisions_fault<M: DpModel, N: Rows>(
     model: &M,
-    next: &N,
-    k: usize,
-    i: u32,
-    row: RowRef<'_>,
+    next: &NextLayer<'_, N>,
+    at: PlacedRow<'_>,
     step: &mut [i64],
-    known: bool,
 ) -> Option<Why>
-    requires states { known ≡ true → are_states (M.meaning (M.numbers model.now)) (k + 1) (N.rows next.now) ≡ true }
-    requires layer { k < (M.meaning (M.numbers model.now)).vars }
-    requires state { IsTrue ((M.meaning (M.numbers model.now)).is_state k row.words.now) }
+    requires states { AreStatesIf next.now.known (M.meaning (M.numbers model.now)) (at.layer + 1) (N.rows next.now.rows.now) }
+    requires inner { IsInner (M.meaning (M.numbers model.now)) at }
     requires cells { length step.old ≡ (M.meaning (M.numbers model.now)).words }
-    ensures { result ≡ decisions_fault (M.meaning (M.numbers model.now)) k i (N.rows next.now) (shown_row row.entry) row.entry.arcs.now (tested (M.meaning (M.numbers model.now)) k row.entry.words.now row.entry.arcs.now) }
+    ensures { result ≡ decisions_fault (M.meaning (M.numbers model.now)) at.entry.layer at.entry.number (N.rows next.now.rows.now) (shown_row at.entry.row) at.entry.row.arcs.now (tested (M.meaning (M.numbers model.now)) at.entry.layer at.entry.row.words.now at.entry.row.arcs.now) }
 {
-    if all_pass(model, next, k, i, row, step, known) {
+    if all_pass(model, next, at, step) {
         return None;
     }
-    first_decision_fault(model, next, k, i, row, step, known)
+    first_decision_fault(model, next, at, step)
 }
 
 /// Whether an option is at most another, where none is less than every number.
@@ -376,34 +323,47 @@ fn is_at_most(a: Option<i64>, b: Option<i64>) -> bool
     }
 }
 
+/// The failure of a row of the last layer: it has no arcs, and a bound of at least 0.
+fn terminal_fault(i: u32, row: RowRef<'_>) -> Option<Why>
+    ensures { result ≡ last_fault i (shown_row row.entry) (shown_row row.entry).arcs }
+{
+    if !row.has_arcs && is_at_most(Some(0), row.bound) {
+        None
+    } else {
+        Some(Why::Terminal { row: i })
+    }
+}
+
 /// The first failure of a row: its words, and then its arcs, its rough bound or, at the last layer, its bound. `step` is
 /// written over.
 pub fn row_fault<M: DpModel, N: Rows>(
     model: &M,
-    next: &N,
+    next: &NextLayer<'_, N>,
     k: usize,
     i: u32,
     row: RowRef<'_>,
     step: &mut [i64],
-    known: bool,
 ) -> Option<Why>
-    requires states { known ≡ true → are_states (M.meaning (M.numbers model.now)) (k + 1) (N.rows next.now) ≡ true }
+    requires states { AreStatesIf next.now.known (M.meaning (M.numbers model.now)) (k + 1) (N.rows next.now.rows.now) }
     requires layer { k ≤ (M.meaning (M.numbers model.now)).vars }
     requires cells { length step.old ≡ (M.meaning (M.numbers model.now)).words }
-    ensures { result ≡ row_fault (M.meaning (M.numbers model.now)) k i (N.rows next.now) (shown_row row.entry) }
+    ensures { result ≡ row_fault (M.meaning (M.numbers model.now)) k i (N.rows next.now.rows.now) (shown_row row.entry) }
 {
     let layer = k as u32;
     if !is_state_row(model, k, row.words) {
         return Some(Why::Row { layer, row: i });
     }
     if k == model.vars() {
-        if !row.has_arcs && is_at_most(Some(0), row.bound) {
-            return None;
-        }
-        return Some(Why::Terminal { row: i });
+        return terminal_fault(i, row);
     }
     if row.has_arcs {
-        return decisions_fault(model, next, k, i, row, step, known);
+        let at = PlacedRow {
+            layer,
+            number: i,
+            row,
+            rank: model.rank(k, row.words),
+        };
+        return decisions_fault(model, next, at, step);
     }
     if is_at_most(model.rough(k, row.words), row.bound) {
         None
@@ -412,28 +372,26 @@ pub fn row_fault<M: DpModel, N: Rows>(
     }
 }
 
-/// The first failure of the rows of a layer. `step` is written over; `known` says that all rows of the next layer are states, and
-/// may be false where they are.
+/// The first failure of the rows of a layer. `step` is written over.
 pub fn rows_fault<M: DpModel, L: Rows, N: Rows>(
     model: &M,
     here: &L,
     count: u32,
-    next: &N,
+    next: &NextLayer<'_, N>,
     k: usize,
     step: &mut [i64],
-    known: bool,
 ) -> Option<Why>
-    requires states { known ≡ true → are_states (M.meaning (M.numbers model.now)) (k + 1) (N.rows next.now) ≡ true }
+    requires states { AreStatesIf next.now.known (M.meaning (M.numbers model.now)) (k + 1) (N.rows next.now.rows.now) }
     requires layer { k ≤ (M.meaning (M.numbers model.now)).vars }
     requires count { count ≡ length (L.rows here.now) }
     requires cells { length step.old ≡ (M.meaning (M.numbers model.now)).words }
-    ensures { result ≡ rows_fault (M.meaning (M.numbers model.now)) k (N.rows next.now) 0 (L.rows here.now) }
+    ensures { result ≡ rows_fault (M.meaning (M.numbers model.now)) k (N.rows next.now.rows.now) 0 (L.rows here.now) }
 {
     'rows: for i in 0..count {
         let Some(row) = here.row(i) else {
             return None;
         };
-        let why = row_fault(model, next, k, i, row, step, known);
+        let why = row_fault(model, next, k, i, row, step);
         if why.is_some() {
             return why;
         }
@@ -490,9 +448,11 @@ pub fn layers_fault<M: DpModel>(model: &M, cover: &Cover, step: &mut [i64]) -> O
 {
     'layers: for k in 0..cover.layers() {
         let here = cover.layer(k);
-        let next = cover.layer(k + 1);
-        let known = next_are_states(model, cover, k);
-        let why = rows_fault(model, &here, cover.rows(k) as u32, &next, k, step, known);
+        let next = NextLayer {
+            rows: &cover.layer(k + 1),
+            known: next_are_states(model, cover, k),
+        };
+        let why = rows_fault(model, &here, cover.rows(k) as u32, &next, k, step);
         if why.is_some() {
             return why;
         }
@@ -617,31 +577,38 @@ pub fn claim_of(best: Option<i64>, within: i64) -> Option<i64>
     }
 }
 
+/// What is reported of a problem: the value of a solution or none, how far below the best value it may lie, and the solution.
+#[derive(Clone, Copy)]
+pub struct Reported<'a> {
+    pub best: Option<i64>,
+    pub within: i64,
+    pub assignment: &'a [u32],
+}
+
 /// The verdict on a cover with its reported value, distance and assignment; an accepted one proves that the best value lies
 /// within the distance. `root` and `step` are written over; it takes no memory.
 pub fn check<M: DpModel>(
     model: &M,
-    best: Option<i64>,
-    within: i64,
-    assignment: &[u32],
+    reported: Reported<'_>,
     cover: &Cover,
     root: &mut [i64],
     step: &mut [i64],
 ) -> Verdict
     requires root_cells { length root.old ≡ (M.meaning (M.numbers model.now)).words }
     requires cells { length step.old ≡ (M.meaning (M.numbers model.now)).words }
-    requires distance { IsDistance within }
-    ensures verdict { result ≡ verdict (M.meaning (M.numbers model.now)) best within assignment.now cover.now }
-    ensures near { result ≡ Accepted → IsReportedWithin (M.meaning (M.numbers model.now)) assignment.now best within }
-    ensures sound { result ≡ Accepted → within ≡ pos 0 → IsReportedBest (M.meaning (M.numbers model.now)) assignment.now best }
+    requires distance { IsDistance reported.within }
+    ensures verdict { result ≡ verdict (M.meaning (M.numbers model.now)) reported.entry.best reported.entry.within reported.entry.assignment.now cover.now }
+    ensures near { result ≡ Accepted → IsReportedWithin (M.meaning (M.numbers model.now)) reported.entry.assignment.now reported.entry.best reported.entry.within }
+    ensures sound { result ≡ Accepted → reported.entry.within ≡ pos 0 → IsReportedBest (M.meaning (M.numbers model.now)) reported.entry.assignment.now reported.entry.best }
 {
     if cover.layers() != model.vars() + 1 {
         return Verdict::Refused(Why::Layers);
     }
-    if let Some(why) = solution_fault(model, best, assignment, root, step) {
+    if let Some(why) = solution_fault(model, reported.best, reported.assignment, root, step) {
         return Verdict::Refused(why);
     }
-    match check_rows(model, claim_of(best, within), cover, root, step) {
+    let claim = claim_of(reported.best, reported.within);
+    match check_rows(model, claim, cover, root, step) {
         None => Verdict::Accepted,
         Some(why) => Verdict::Refused(why),
     }

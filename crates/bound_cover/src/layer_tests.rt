@@ -4,7 +4,7 @@ ghost use Rattle.std.specs.Prelude.{◌≡◌, ◌<◌, [], length};
 ghost use Rattle.bound_cover.specs.Exploring.{layer_of};
 ghost use Rattle.bound_cover.specs.InTurn.{root_fault, pair_fault, layer_fault, last_rows_fault};
 
-use crate::checks::{Rows, are_states, has_root, rows_fault};
+use crate::checks::{NextLayer, Rows, are_states, has_root, rows_fault};
 use crate::cover::Why;
 use crate::storing::{Cover, RowRef};
 use dp_model::DpModel;
@@ -84,29 +84,31 @@ fn pair_fault<M: DpModel>(
     let rows = here.layer(0);
     let following = next.layer(0);
     let known = are_states(model, k + 1, &following, first_count(next));
-    rows_fault(model, &rows, first_count(here), &following, k, step, known)
+    let following = NextLayer {
+        rows: &following,
+        known,
+    };
+    rows_fault(model, &rows, first_count(here), &following, k, step)
 }
 
-/// The first failure of what can be tested once a further layer is there, after this many. `root` and `step` are written over.
+/// The first failure of what can be tested once a further layer is there. `root` and `step` are written over.
 pub(crate) fn layer_fault<M: DpModel>(
     model: &M,
-    claim: Option<i64>,
-    count: usize,
-    here: &Cover,
+    tests: &LayerTests,
     next: &Cover,
     root: &mut [i64],
     step: &mut [i64],
 ) -> Option<Why>
     requires root_cells { length root.old ≡ (M.meaning (M.numbers model.now)).words }
     requires cells { length step.old ≡ (M.meaning (M.numbers model.now)).words }
-    ensures { result ≡ layer_fault (M.meaning (M.numbers model.now)) claim count (layer_of here.now 0) (layer_of next.now 0) }
+    ensures { result ≡ layer_fault (M.meaning (M.numbers model.now)) tests.now.claim tests.now.count (layer_of tests.now.here 0) (layer_of next.now 0) }
 {
-    if count == 0 {
-        return root_fault(model, claim, next, root);
+    if tests.count == 0 {
+        return root_fault(model, tests.claim, next, root);
     }
-    let k = count - 1;
+    let k = tests.count - 1;
     if k < model.vars() {
-        pair_fault(model, k, here, next, step)
+        pair_fault(model, k, &tests.here, next, step)
     } else {
         None
     }
@@ -117,13 +119,16 @@ pub(crate) fn last_fault<M: DpModel>(model: &M, here: &Cover, step: &mut [i64]) 
     requires cells { length step.old ≡ (M.meaning (M.numbers model.now)).words }
     ensures { result ≡ last_rows_fault (M.meaning (M.numbers model.now)) (layer_of here.now 0) }
 {
+    let none = NextLayer {
+        rows: &NoRows,
+        known: false,
+    };
     rows_fault(
         model,
         &here.layer(0),
         first_count(here),
-        &NoRows,
+        &none,
         model.vars(),
         step,
-        false,
     )
 }

@@ -1,4 +1,4 @@
-use Rattle.std.proofs.Common.{◌≡◌, ◌≢◌, ℕ, ◌+◌, ℤ, Bool, true, false, cond, List, length, Option, None, Some, FitsSigned, to_z, of_z, w64, arith, refl, ap, sym, ◌∙◌}
+use Rattle.std.proofs.Common.{◌≡◌, ◌≢◌, ℕ, ◌+◌, ℤ, Bool, true, false, cond, List, length, Option, None, Some, FitsSigned, to_z, of_z, w64, arith, refl, rules, ap, sym, ◌∙◌}
 use Rattle.std.specs.Prelude.{nat_eq}
 use Rattle.std.proofs.lemmas.Bool.Decides.{nat_tests}
 use Rattle.std.proofs.lemmas.Int.{to_z-of_z}
@@ -37,43 +37,43 @@ by_rows dp best within x layers claim rows none claimed is =
 claim_is : (best claim : Option ℤ) (within : ℤ) → FitsSigned w64 within → claim ≡ claim_of best (to_z w64 (of_z w64 within)) → claim_of best within ≡ claim
 claim_is best claim within fits is = ap (claim_of best) (sym (to_z-of_z w64 within fits)) ∙ sym is
 
-pub claim_of-requires-clause-value : goal.claim_of-requires-clause-value
-claim_of-requires-clause-value g c =
-    reported-far (g.M.DpModel.meaning (g.M.DpModel.numbers c.args.model.now)) (laws_of g c.args.model.now) c.args.best c.args.assignment.now (sym c.solution_fault.ensures ∙ c.in_default.is)
+pub claim_of-claim-requires-clause-value : goal.claim_of-claim-requires-clause-value
+claim_of-claim-requires-clause-value g c =
+    reported-far (g.M.DpModel.meaning (g.M.DpModel.numbers c.args.model.now)) (laws_of g c.args.model.now) c.args.reported.best c.args.reported.assignment.now (sym c.solution_fault.ensures ∙ c.in_default.is)
 
 pub returns-in-None-clause-near : goal.returns-in-None-clause-near
 returns-in-None-clause-near g c =
     let dp = g.M.DpModel.meaning (g.M.DpModel.numbers c.args.model.now) in
-    let claim = claim_is c.args.best c.claim_of.result c.args.within (record { sfits = c.ranges.within.sfits }) c.claim_of.ensures in
-    λ _. accepted-is-near dp (laws_of g c.args.model.now) c.args.best c.args.within c.args.assignment.now c.args.cover.now
-    (checked-by dp c.args.best c.args.within c.args.assignment.now c.args.cover.now (sym c.solution_fault.ensures ∙ c.in_default.is)
+    let claim = claim_is c.args.reported.best c.claim_of-claim.result c.args.reported.within (search rules) c.claim_of-claim.ensures in
+    λ _. accepted-is-near dp (laws_of g c.args.model.now) c.args.reported.best c.args.reported.within c.args.reported.assignment.now c.args.cover.now
+    (checked-by dp c.args.reported.best c.args.reported.within c.args.reported.assignment.now c.args.cover.now (sym c.solution_fault.ensures ∙ c.in_default.is)
     (ap (λ claim. checked_rows dp claim c.args.cover.now) claim ∙ (sym c.check_rows.ensures ∙ c.in-None.is)))
 
 pub returns-in-None-clause-sound : goal.returns-in-None-clause-sound
 returns-in-None-clause-sound g c =
     let dp = g.M.DpModel.meaning (g.M.DpModel.numbers c.args.model.now) in
-    let claim = claim_is c.args.best c.claim_of.result c.args.within (record { sfits = c.ranges.within.sfits }) c.claim_of.ensures in
-    λ _. accepted-is-best dp (laws_of g c.args.model.now) c.args.best c.args.within c.args.assignment.now c.args.cover.now
-    (checked-by dp c.args.best c.args.within c.args.assignment.now c.args.cover.now (sym c.solution_fault.ensures ∙ c.in_default.is)
+    let claim = claim_is c.args.reported.best c.claim_of-claim.result c.args.reported.within (search rules) c.claim_of-claim.ensures in
+    λ _. accepted-is-best dp (laws_of g c.args.model.now) c.args.reported.best c.args.reported.within c.args.reported.assignment.now c.args.cover.now
+    (checked-by dp c.args.reported.best c.args.reported.within c.args.reported.assignment.now c.args.cover.now (sym c.solution_fault.ensures ∙ c.in_default.is)
     (ap (λ claim. checked_rows dp claim c.args.cover.now) claim ∙ (sym c.check_rows.ensures ∙ c.in-None.is)))
 
 pub returns-then-layers-vars-clause-verdict : goal.returns-then-layers-vars-clause-verdict
 returns-then-layers-vars-clause-verdict g c =
     let dp = g.M.DpModel.meaning (g.M.DpModel.numbers c.args.model.now) in
-    sym (verdict_on dp c.args.best c.args.within c.args.assignment.now c.args.cover.now false _ (other_layers dp c.args.cover.now c.layers.result c.vars.result c.layers.ensures.count c.vars.ensures c.if-layers-vars.true) refl)
+    sym (verdict_on dp c.args.reported.best c.args.reported.within c.args.reported.assignment.now c.args.cover.now false _ (other_layers dp c.args.cover.now c.layers.result c.vars.result c.layers.ensures.count c.vars.ensures c.if-layers-vars.true) refl)
 
 pub returns-in-Some-clause-verdict : goal.returns-in-Some-clause-verdict
 returns-in-Some-clause-verdict g c =
     let dp = g.M.DpModel.meaning (g.M.DpModel.numbers c.args.model.now) in
-    sym (verdict_on dp c.args.best c.args.within c.args.assignment.now c.args.cover.now true (Some c.in-Some.why)
+    sym (verdict_on dp c.args.reported.best c.args.reported.within c.args.reported.assignment.now c.args.cover.now true (Some c.in-Some.why)
     (all_layers dp c.args.cover.now c.layers.result c.vars.result c.layers.ensures.count c.vars.ensures c.if-layers-vars.false) (sym c.solution_fault.ensures ∙ c.in-Some.is))
 
 pub returns-in-None-clause-verdict : goal.returns-in-None-clause-verdict
 returns-in-None-clause-verdict g c =
-    sym (by_rows (g.M.DpModel.meaning (g.M.DpModel.numbers c.args.model.now)) c.args.best c.args.within c.args.assignment.now c.args.cover.now c.claim_of.result None (sym c.solution_fault.ensures ∙ c.in_default.is)
-    (claim_is c.args.best c.claim_of.result c.args.within (record { sfits = c.ranges.within.sfits }) c.claim_of.ensures) (sym c.check_rows.ensures ∙ c.in-None.is))
+    sym (by_rows (g.M.DpModel.meaning (g.M.DpModel.numbers c.args.model.now)) c.args.reported.best c.args.reported.within c.args.reported.assignment.now c.args.cover.now c.claim_of-claim.result None (sym c.solution_fault.ensures ∙ c.in_default.is)
+    (claim_is c.args.reported.best c.claim_of-claim.result c.args.reported.within (search rules) c.claim_of-claim.ensures) (sym c.check_rows.ensures ∙ c.in-None.is))
 
 pub returns-in-Some-check_rows-clause-verdict : goal.returns-in-Some-check_rows-clause-verdict
 returns-in-Some-check_rows-clause-verdict g c =
-    sym (by_rows (g.M.DpModel.meaning (g.M.DpModel.numbers c.args.model.now)) c.args.best c.args.within c.args.assignment.now c.args.cover.now c.claim_of.result (Some c.in-Some-check_rows.why) (sym c.solution_fault.ensures ∙ c.in_default.is)
-    (claim_is c.args.best c.claim_of.result c.args.within (record { sfits = c.ranges.within.sfits }) c.claim_of.ensures) (sym c.check_rows.ensures ∙ c.in-Some-check_rows.is))
+    sym (by_rows (g.M.DpModel.meaning (g.M.DpModel.numbers c.args.model.now)) c.args.reported.best c.args.reported.within c.args.reported.assignment.now c.args.cover.now c.claim_of-claim.result (Some c.in-Some-check_rows.why) (sym c.solution_fault.ensures ∙ c.in_default.is)
+    (claim_is c.args.reported.best c.claim_of-claim.result c.args.reported.within (search rules) c.claim_of-claim.ensures) (sym c.check_rows.ensures ∙ c.in-Some-check_rows.is))

@@ -1,11 +1,11 @@
-use Rattle.std.proofs.Common.{sym, ◌∙◌, ap}
+use Rattle.std.proofs.Common.{Some, sym, ◌∙◌, ap}
 use Rattle.bound_cover.proofs.Walking.{rest_fault}
 use Rattle.bound_cover.proofs.Turns.{turn-following, turn-fails, turn-on, after-some, after-none, turn-ends, turn-to}
 use Rattle.bound_cover.proofs.checks.first_decision_fault.Goals as goal
 use Rattle.bound_cover.proofs.checks.first_decision_fault.Goals.{then-is_some-2, else-is_some-2}
 
 pub returns-then-eq : goal.returns-then-eq
-returns-then-eq g c = turn-following _ _ _ _ _ _ _ _ _ c.decisions.invariant c.least_after-following.ensures c.if-eq.ensures
+returns-then-eq g c = ap (λ w. Some w) c.why_target.ensures ∙ turn-following _ _ _ _ _ _ _ _ _ c.decisions.invariant c.least_after-following.ensures c.if-eq.ensures
 
 pub returns-then-is_some : goal.returns-then-is_some
 returns-then-is_some g c =
@@ -21,8 +21,8 @@ decisions-preserved g c =
 
 pub returns-in-Some : goal.returns-in-Some
 returns-in-Some g c =
-    ap (rest_fault c.args.k c.args.i) (sym c.in-Some.is) ∙ turn-ends _ _ _ _ _ _ _ _ _ _ _ c.choices-decision-end.ensures c.decisions.auto.decision-end c.decisions-test.false c.decisions.invariant c.least_after-following.ensures c.least_left.ensures
+    ap (λ w. Some w) c.why_target-in-Some.ensures ∙ (ap (rest_fault c.args.at.layer c.args.at.number) (sym c.in-Some.is) ∙ turn-ends _ _ _ _ _ _ _ _ _ _ _ c.choices-decision-end.ensures c.decisions.auto.decision-end c.decisions-test.false c.decisions.invariant c.least_after-following.ensures c.least_left.ensures)
 
 pub returns-in-None : goal.returns-in-None
 returns-in-None g c =
-    ap (rest_fault c.args.k c.args.i) (sym c.in-None.is) ∙ turn-ends _ _ _ _ _ _ _ _ _ _ _ c.choices-decision-end.ensures c.decisions.auto.decision-end c.decisions-test.false c.decisions.invariant c.least_after-following.ensures c.least_left.ensures
+    ap (rest_fault c.args.at.layer c.args.at.number) (sym c.in-None.is) ∙ turn-ends _ _ _ _ _ _ _ _ _ _ _ c.choices-decision-end.ensures c.decisions.auto.decision-end c.decisions-test.false c.decisions.invariant c.least_after-following.ensures c.least_left.ensures
