@@ -11,3 +11,4 @@ pub mod GoingOn
 pub mod Offered
 pub mod Drawn
 pub mod Left
+pub mod Asked

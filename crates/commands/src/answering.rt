@@ -106,13 +106,9 @@ fn solve_job<S: Source, D: Disk + Send, G: Gate + Sync, R: Threads + Wait + Sync
     requires { IsPossible (solve subject.name search (option_map string_bytes journal) subject.part) }
     ensures { IsJobAnswer D.Disk (solve subject.name search (option_map string_bytes journal) subject.part) (readings S.left S.faults input.old input.new) disk result.1 result.0 }
 {
-    match (journal, subject.part) {
-        // These two differ in what is required: a part is searched exactly.
-        (None, None) => solve_input(run, subject, search, input, disk),
-        (None, Some(_)) => solve_input(run, subject, search, input, disk),
-        (Some(path), None) => keep_input(run, subject.name, search, path.as_str(), input, disk),
-        // No words ask for it.
-        (Some(_), Some(_)) => unreachable!(),
+    match journal {
+        None => solve_input(run, subject, search, input, disk),
+        Some(path) => keep_input(run, subject.name, search, path.as_str(), input, disk),
     }
 }
 
