@@ -1,4 +1,4 @@
-ghost use Rattle.std.specs.Prelude.{◌≡◌, ℕ, Bool, ◌+◌, ◌-◌, ◌*◌, ◌^◌, ◌<◌, ◌≤◌, ◌==◌, ◌||◌, not, min, length, false, IfOk, Ok, IfSome, option_map, is_some, [], ◌∷◌, SomeIff, pos, neg_ℤ, ◌≤ℤ◌, FitsSigned, true, nat_eq};
+ghost use Rattle.std.specs.Prelude.{◌≡◌, ℕ, Bool, ◌+◌, ◌-◌, ◌*◌, ◌^◌, ◌<◌, ◌≤◌, ◌++◌, ◌==◌, ◌||◌, not, min, length, codes, false, IfOk, Ok, IfSome, option_map, is_some, [], ◌∷◌, SomeIff, pos, neg_ℤ, ◌≤ℤ◌, FitsSigned, true, nat_eq};
 ghost use Rattle.std.specs.Cmp.Lexicographic.{pointwise};
 ghost use Rattle.std.specs.Result.{result_map_both};
 ghost use Rattle.std.specs.List.{prefix_len};
@@ -352,7 +352,7 @@ pub(crate) struct Number<'a> {
 
 /// Whether the bytes begin with a blank that most often ends a token.
 #[inline]
-fn begin_with_a_blank(bytes: &[u8]) -> bool
+pub(crate) fn begin_with_a_blank(bytes: &[u8]) -> bool
     ensures some { result ≡ true → 0 < length bytes.now }
     ensures blank { result ≡ true → length (first_token bytes.now) ≡ 0 }
 {
@@ -360,6 +360,14 @@ fn begin_with_a_blank(bytes: &[u8]) -> bool
         [b' ', ..] | [b'\n', ..] => true,
         _ => false,
     }
+}
+
+/// What stands after eight zeros, where the bytes begin with these and a space between each two.
+#[inline(always)]
+pub(crate) fn after_zeros(bytes: &[u8]) -> Option<&[u8]>
+    ensures { IfSome result (λ b. bytes.now ≡ codes "0 0 0 0 0 0 0 0" ++ b.now) }
+{
+    bytes.strip_prefix(b"0 0 0 0 0 0 0 0")
 }
 
 /// The number from `least` to `greatest` that a first token of few digits writes; `None` where the token is anything else, and
