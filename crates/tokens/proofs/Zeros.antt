@@ -1,6 +1,9 @@
 -- Zeros with a space between each two, and where reading stands after them.
-use Rattle.std.proofs.Common.{◌≡◌, ℕ, zero, suc, ◌+◌, ◌*◌, ◌<◌, Bool, true, false, List, [], ◌∷◌, ◌++◌, length, ℤ, pos, refl, sym, ap, ◌∙◌, subst, arith}
+use Rattle.std.proofs.Common.{◌≡◌, ℕ, zero, suc, ◌+◌, ◌*◌, ◌<◌, Bool, true, false, List, [], ◌∷◌, ◌++◌, length, take, drop, get_or, ◌-◌, ℤ, pos, refl, sym, ap, ◌∙◌, subst, arith}
 use Rattle.std.specs.Prelude.{codes, Ok, ◌&&◌, int_le}
+use Rattle.std.specs.Int.{w64, from_le_bytes, to_le_bytes}
+use Rattle.std.proofs.lemmas.Nat.{le_bytes_8}
+use Rattle.std.proofs.lemmas.List.{length-drop, take_all, take-append-drop}
 use Rattle.tokens.specs.Text.{TextState, Place, Comment, is_blank, at_token, token, after_token, ends_line, place_of, number_of, number_in, number_at}
 use Rattle.tokens.specs.Scanned.{first_token, IsNextToken}
 use Rattle.tokens.specs.Zeros.{passed_over, ZerosFollow}
@@ -62,6 +65,40 @@ module _ (s : TextState) (p : Place) (bytes : List ℕ) (next : IsNextToken s by
   eight_passed following is some ends = sym (eight_next following is some ends).1
 
 pub ruleset zero_steps = (eight_follow, eight_passed)
+
+-- the first bytes are bytes
+take_fits : (n : ℕ) (bytes : List ℕ) → ((i : ℕ) → get_or bytes i 0 < 256) → (i : ℕ) → get_or (take n bytes) i 0 < 256
+take_fits zero bytes fits i = omega arith
+take_fits (suc n) [] fits i = omega arith
+take_fits (suc n) (x ∷ xs) fits zero = fits 0
+take_fits (suc n) (x ∷ xs) fits (suc i) = take_fits n xs (λ j. fits (suc j)) i
+
+-- the first eight bytes are four zeros with a space after each where their word is the word of these
+pub four_zeros : (bytes four following : List ℕ) (word : ℕ) → length four ≡ 8 → ((i : ℕ) → get_or bytes i 0 < 256) → word ≡ from_le_bytes w64 four → word ≡ from_le_bytes w64 (codes "0 0 0 0 ")
+    → four ≡ take 8 bytes → following ≡ drop 8 bytes → bytes ≡ codes "0 0 0 0 " ++ following
+four_zeros bytes four following word long fits is zeros head rest =
+    let four_fits = subst (λ l. (i : ℕ) → get_or l i 0 < 256) (sym head) (take_fits 8 bytes fits) in
+    let same : four ≡ codes "0 0 0 0 " = sym (le_bytes_8 four word long four_fits is) ∙ ap (to_le_bytes w64) zeros in
+    sym (take-append-drop 8 bytes) ∙ (ap (λ l. l ++ drop 8 bytes) (sym head ∙ same) ∙ ap (λ l. codes "0 0 0 0 " ++ l) (sym rest))
+
+-- four zeros and four more
+module _ (bytes further following : List ℕ) (is : bytes ≡ codes "0 0 0 0 " ++ further) (more : further ≡ codes "0 0 0 0 " ++ following) where
+  after_eight : take (length bytes - 15) (drop 15 bytes) ≡ 32 ∷ following
+  after_eight =
+      let same : bytes ≡ codes "0 0 0 0 0 0 0 0" ++ 32 ∷ following = is ∙ ap (λ l. codes "0 0 0 0 " ++ l) more in
+      let left = length-drop 15 bytes in
+      take_all (length bytes - 15) (drop 15 bytes) (omega arith) ∙ ap (drop 15) same
+
+  pub eight_zeros : bytes ≡ codes "0 0 0 0 0 0 0 0" ++ take (length bytes - 15) (drop 15 bytes)
+  eight_zeros = is ∙ (ap (λ l. codes "0 0 0 0 " ++ l) more ∙ ap (λ l. codes "0 0 0 0 0 0 0 0" ++ l) (sym after_eight))
+
+  pub some_after : 0 < length (take (length bytes - 15) (drop 15 bytes))
+  some_after = subst (λ l. 0 < length l) (sym after_eight) (omega arith)
+
+  pub blank_after : length (first_token (take (length bytes - 15) (drop 15 bytes))) ≡ 0
+  blank_after = subst (λ l. length (first_token l) ≡ 0) (sym after_eight) refl
+
+pub ruleset eight_steps = (eight_zeros, some_after, blank_after)
 
 -- a zero is read as the number 0, where the range has it
 pub zero_read : (least greatest : ℤ) (s : TextState) → token s ≡ 48 ∷ [] → (int_le least (pos 0) && int_le (pos 0) greatest) ≡ true → number_at least greatest s ≡ Ok (pos 0)

@@ -352,7 +352,7 @@ pub(crate) struct Number<'a> {
 
 /// Whether the bytes begin with a blank that most often ends a token.
 #[inline]
-pub(crate) fn begin_with_a_blank(bytes: &[u8]) -> bool
+fn begin_with_a_blank(bytes: &[u8]) -> bool
     ensures some { result ≡ true → 0 < length bytes.now }
     ensures blank { result ≡ true → length (first_token bytes.now) ≡ 0 }
 {
@@ -362,12 +362,31 @@ pub(crate) fn begin_with_a_blank(bytes: &[u8]) -> bool
     }
 }
 
-/// What stands after eight zeros, where the bytes begin with these and a space between each two.
+/// What stands after four zeros, where the bytes begin with these and a space after each. They are compared as one word.
 #[inline(always)]
-pub(crate) fn after_zeros(bytes: &[u8]) -> Option<&[u8]>
-    ensures { IfSome result (λ b. bytes.now ≡ codes "0 0 0 0 0 0 0 0" ++ b.now) }
+#[tactic(auto, using(crate::proofs::Zeros::four_zeros))]
+fn after_four_zeros(bytes: &[u8]) -> Option<&[u8]>
+    ensures { IfSome result (λ b. bytes.now ≡ codes "0 0 0 0 " ++ b.now) }
 {
-    bytes.strip_prefix(b"0 0 0 0 0 0 0 0")
+    let (four, following) = bytes.split_first_chunk::<8>()?;
+    if u64::from_le_bytes(*four) == u64::from_le_bytes(*b"0 0 0 0 ") {
+        Some(following)
+    } else {
+        None
+    }
+}
+
+/// What stands right after eight zeros, where the bytes begin with these and a space after each.
+#[inline(always)]
+#[tactic(auto, using(crate::proofs::Zeros::eight_steps))]
+pub(crate) fn after_zeros(bytes: &[u8]) -> Option<&[u8]>
+    ensures zeros { IfSome result (λ b. bytes.now ≡ codes "0 0 0 0 0 0 0 0" ++ b.now) }
+    ensures some { IfSome result (λ b. 0 < length b.now) }
+    ensures blank { IfSome result (λ b. length (first_token b.now) ≡ 0) }
+{
+    let further = after_four_zeros(bytes)?;
+    after_four_zeros(further)?;
+    Some(&bytes[15..])
 }
 
 /// The number from `least` to `greatest` that a first token of few digits writes; `None` where the token is anything else, and

@@ -7,8 +7,8 @@ ghost use Rattle.tokens.specs.Text.{text_start, at_token, IsCountable, token, pl
 use crate::comment::Comment;
 use crate::place::Place;
 use crate::scan::{
-    Spot, after_one_blank, after_zeros, begin_with_a_blank, following_word, leading_number,
-    short_number, skip_blanks, skip_comments, token_len,
+    Spot, after_one_blank, after_zeros, following_word, leading_number, short_number, skip_blanks,
+    skip_comments, token_len,
 };
 use crate::text_error::TextError;
 use std::marker::Model;
@@ -193,9 +193,6 @@ impl<'a> Tokens<'a> {
         }
         let spot = self.spot();
         let following = after_zeros(spot.rest)?;
-        if !begin_with_a_blank(following) {
-            return None;
-        }
         Some(Here {
             rest: following,
             place: Place {
