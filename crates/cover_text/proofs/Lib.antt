@@ -11,6 +11,7 @@ pub mod PrintedHeads
 pub mod OutputsRead
 pub mod Writing
 pub mod Zeros
+pub mod ZerosRead
 pub mod InTurn
 pub mod EachName
 pub mod Ends

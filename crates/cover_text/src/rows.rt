@@ -1,6 +1,6 @@
 //! The lines of rows, read.
 
-ghost use Rattle.std.specs.Prelude.{◌≡◌, [], ◌+◌, ◌<◌, ◌-◌, ◌^◌, ℤ, cond, length, Option, Some, None, OnOk, false};
+ghost use Rattle.std.specs.Prelude.{◌≡◌, [], ◌++◌, ◌+◌, ◌<◌, ◌≤◌, ◌-◌, ◌^◌, ℤ, pos, cond, length, replicate, Option, Some, None, OnOk, IfOk, false};
 ghost use Rattle.tokens.specs.Text.{ends_line};
 ghost use Rattle.bound_cover.specs.Stored.{last_layer};
 ghost use Rattle.cover_text.specs.Grammar.{Reads, until};
@@ -9,6 +9,7 @@ ghost use Rattle.cover_text.specs.RowLines.{bound_at, semicolon_at, state_word_a
 use crate::cover_error::CoverError;
 use crate::fixed::{early_end, next_small, pass_word};
 use bound_cover::{CoverArc, CoverBuilder};
+use std::alloc::AllocError as OutOfMemory;
 use tokens::Tokens;
 
 const MOST_BOUND: i64 = 1 << 62;
@@ -60,9 +61,46 @@ fn read_word(tokens: &mut Tokens<'_>, rows: &mut CoverBuilder) -> Result<(), Cov
     Ok(())
 }
 
-/// Reads the words of a row, at most this many.
+/// Adds eight zeros to the words.
+#[inline]
+#[tactic(auto, using(crate::proofs::ZerosRead::zero_added))]
+fn add_zeros(rows: &mut CoverBuilder) -> Result<(), OutOfMemory>
+    ensures words { OnOk result (rows.new.words ≡ rows.old.words ++ replicate 8 (pos 0)) }
+    ensures cover { rows.new.cover ≡ rows.old.cover }
+    ensures arcs { rows.new.arcs ≡ rows.old.arcs }
+{
+    for _ in 0..8usize {
+        rows.push_word(0)?;
+    }
+    Ok(())
+}
+
+/// Reads the zeros with which words begin, eight at a time, and tells how many of the words these are.
+#[inline]
+#[tactic(auto, using(crate::proofs::ZerosRead::eight_read))]
+fn read_zeros(
+    tokens: &mut Tokens<'_>,
+    most: usize,
+    rows: &mut CoverBuilder,
+) -> Result<usize, OutOfMemory>
+    ensures read { IfOk result (λ done. until ends_words state_word_at (most - done) rows.new.words tokens.new ≡ until ends_words state_word_at most rows.old.words tokens.old) }
+    ensures few { IfOk result (λ done. done ≤ most) }
+    ensures cover { rows.new.cover ≡ rows.old.cover }
+    ensures arcs { rows.new.arcs ≡ rows.old.arcs }
+{
+    let count = most / 8;
+    'eights: for block in 0..count {
+        if !tokens.pass_zeros() {
+            return Ok(8 * block);
+        }
+        add_zeros(rows)?;
+    }
+    Ok(8 * count)
+}
+
+/// Reads words one by one, at most this many.
 #[tactic(auto, using(crate::proofs::Chains::until_steps))]
-fn read_words(
+fn read_each(
     tokens: &mut Tokens<'_>,
     most: usize,
     rows: &mut CoverBuilder,
@@ -78,6 +116,20 @@ fn read_words(
         read_word(tokens, rows)?;
     }
     Ok(())
+}
+
+/// Reads the words of a row, at most this many. Many rows begin with zeros, for what is decided already.
+fn read_words(
+    tokens: &mut Tokens<'_>,
+    most: usize,
+    rows: &mut CoverBuilder,
+) -> Result<(), CoverError>
+    ensures read { Reads (λ _. (rows.new.words, tokens.new)) result (until ends_words state_word_at most rows.old.words tokens.old) }
+    ensures cover { rows.new.cover ≡ rows.old.cover }
+    ensures arcs { rows.new.arcs ≡ rows.old.arcs }
+{
+    let done = read_zeros(tokens, most, rows)?;
+    read_each(tokens, most - done, rows)
 }
 
 /// Reads the target of an arc: a row's number, or `r`.

@@ -7,3 +7,4 @@ pub mod Repeats
 pub mod Scanning
 mod Windows
 pub mod Values
+pub mod Zeros

@@ -5,3 +5,4 @@ pub mod Chain
 pub mod Grammar
 pub mod Naturals
 pub mod Printed
+pub mod Zeros

@@ -1,4 +1,4 @@
-ghost use Rattle.std.specs.Prelude.{◌≡◌, ℕ, Bool, ◌+◌, ◌-◌, ◌*◌, ◌^◌, ◌<◌, ◌≤◌, ◌==◌, ◌||◌, not, min, length, false, IfOk, Ok, IfSome, option_map, is_some, [], ◌∷◌, SomeIff, pos, neg_ℤ, ◌≤ℤ◌, FitsSigned, true, nat_eq};
+ghost use Rattle.std.specs.Prelude.{◌≡◌, ℕ, Bool, ◌+◌, ◌-◌, ◌*◌, ◌^◌, ◌<◌, ◌≤◌, ◌++◌, ◌==◌, ◌||◌, not, min, length, codes, false, IfOk, Ok, IfSome, option_map, is_some, [], ◌∷◌, SomeIff, pos, neg_ℤ, ◌≤ℤ◌, FitsSigned, true, nat_eq};
 ghost use Rattle.std.specs.Cmp.Lexicographic.{pointwise};
 ghost use Rattle.std.specs.Result.{result_map_both};
 ghost use Rattle.std.specs.List.{prefix_len};
@@ -360,6 +360,33 @@ fn begin_with_a_blank(bytes: &[u8]) -> bool
         [b' ', ..] | [b'\n', ..] => true,
         _ => false,
     }
+}
+
+/// What stands after four zeros, where the bytes begin with these and a space after each. They are compared as one word.
+#[inline(always)]
+#[tactic(auto, using(crate::proofs::Zeros::four_zeros))]
+fn after_four_zeros(bytes: &[u8]) -> Option<&[u8]>
+    ensures { IfSome result (λ b. bytes.now ≡ codes "0 0 0 0 " ++ b.now) }
+{
+    let (four, following) = bytes.split_first_chunk::<8>()?;
+    if u64::from_le_bytes(*four) == u64::from_le_bytes(*b"0 0 0 0 ") {
+        Some(following)
+    } else {
+        None
+    }
+}
+
+/// What stands right after eight zeros, where the bytes begin with these and a space after each.
+#[inline(always)]
+#[tactic(auto, using(crate::proofs::Zeros::eight_steps))]
+pub(crate) fn after_zeros(bytes: &[u8]) -> Option<&[u8]>
+    ensures zeros { IfSome result (λ b. bytes.now ≡ codes "0 0 0 0 0 0 0 0" ++ b.now) }
+    ensures some { IfSome result (λ b. 0 < length b.now) }
+    ensures blank { IfSome result (λ b. length (first_token b.now) ≡ 0) }
+{
+    let further = after_four_zeros(bytes)?;
+    after_four_zeros(further)?;
+    Some(&bytes[15..])
 }
 
 /// The number from `least` to `greatest` that a first token of few digits writes; `None` where the token is anything else, and

@@ -1,12 +1,13 @@
-ghost use Rattle.std.specs.Prelude.{◌≡◌, ◌+◌, ◌-◌, ◌^◌, ◌<◌, ◌≤◌, length, ◌≤ℤ◌, pos, OnOk, OnErr, IfOk, MatchResult, false, true, Ok, Err, nat_eq};
+ghost use Rattle.std.specs.Prelude.{◌≡◌, ◌+◌, ◌-◌, ◌^◌, ◌<◌, ◌≤◌, length, ◌≤ℤ◌, pos, OnOk, OnErr, IfOk, IfSome, is_some, MatchResult, false, true, Ok, Err, nat_eq};
 ghost use Rattle.std.specs.Cmp.Lexicographic.{pointwise};
 ghost use Rattle.tokens.specs.Scanned.{following_token, IsNextToken};
+ghost use Rattle.tokens.specs.Zeros.{passed_over, ZerosFollow};
 ghost use Rattle.tokens.specs.Text.{text_start, at_token, IsCountable, token, place_of, ends_line, is_at_end, number_at, word_at, after_token, finish_at};
 
 use crate::comment::Comment;
 use crate::place::Place;
 use crate::scan::{
-    Spot, after_one_blank, following_word, leading_number, short_number, skip_blanks,
+    Spot, after_one_blank, after_zeros, following_word, leading_number, short_number, skip_blanks,
     skip_comments, token_len,
 };
 use crate::text_error::TextError;
@@ -176,6 +177,51 @@ impl<'a> Tokens<'a> {
         self.here = Snapshot::of(&here);
         self.ends_line = next.place.line != here.place.line;
         self.next = next;
+    }
+
+    /// Right after eight zeros, where these stand next on this line, with a space between each two.
+    #[inline(always)]
+    #[tactic(auto, using(crate::proofs::Zeros::zero_steps))]
+    fn after_next_zeros(&self) -> Option<Here<'a>>
+        ensures zeros { is_some result ≡ true → ZerosFollow 8 self.now }
+        ensures stands { IfSome result (λ h. record { rest = h.rest.now; place = h.place; fresh = h.fresh; comment = self.now.comment } ≡ passed_over 8 self.now) }
+        ensures countable { IfSome result (λ h. IsCountable h.place h.rest.now) }
+        ensures on_line { IfSome result (λ h. h.fresh ≡ false) }
+    {
+        if self.at_line_end() {
+            return None;
+        }
+        let spot = self.spot();
+        let following = after_zeros(spot.rest)?;
+        Some(Here {
+            rest: following,
+            place: Place {
+                line: spot.place.line,
+                column: spot.place.column + 15,
+            },
+            fresh: false,
+        })
+    }
+
+    /// Passes over eight zeros at once, where each is a token `0` on this line with a space between each two and a single
+    /// blank after them; tells whether they stood there.
+    #[inline(always)]
+    #[tactic(auto, unfolding(crate::specs::Text::at_token))]
+    pub fn pass_zeros(&mut self) -> bool
+        ensures zeros { result ≡ true → ZerosFollow 8 self.old }
+        ensures passed { result ≡ true → self.new ≡ passed_over 8 self.old }
+        ensures other { result ≡ false → self.new ≡ self.old }
+    {
+        let Some(here) = self.after_next_zeros() else {
+            return false;
+        };
+        let Some(next) = after_one_blank(self.comment, here.place, here.rest) else {
+            return false;
+        };
+        self.here = Snapshot::of(&here);
+        self.ends_line = next.place.line != here.place.line;
+        self.next = next;
+        true
     }
 
     /// Reads the next token as any number from `least` to `greatest`.

@@ -1,7 +1,7 @@
 use Rattle.std.proofs.Common.{◌≡◌, ◌-◌}
 use Rattle.cover_text.specs.Grammar.{until}
 use Rattle.cover_text.specs.RowLines.{ends_words, state_word_at}
-use Rattle.cover_text.proofs.rows.read_words.Given as goal
+use Rattle.cover_text.proofs.rows.read_each.Given as goal
 
 -- the rows before and the arcs stay
 abbrev pub invariant-loop : goal.invariant-loop
