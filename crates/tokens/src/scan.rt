@@ -1,8 +1,9 @@
-ghost use Rattle.std.specs.Prelude.{◌≡◌, ℕ, Bool, ◌+◌, ◌-◌, ◌*◌, ◌^◌, ◌<◌, ◌≤◌, ◌++◌, ◌==◌, ◌||◌, not, min, length, codes, false, IfOk, Ok, IfSome, option_map, is_some, [], ◌∷◌, SomeIff, pos, neg_ℤ, ◌≤ℤ◌, FitsSigned, true, nat_eq};
+ghost use Rattle.std.specs.Prelude.{◌≡◌, ℕ, Bool, ◌+◌, ◌-◌, ◌*◌, ◌^◌, ◌<◌, ◌≤◌, ◌++◌, ◌==◌, ◌||◌, not, min, length, codes, false, IfOk, Ok, IfSome, Some, get_or, option_map, is_some, [], ◌∷◌, SomeIff, pos, neg_ℤ, ◌≤ℤ◌, FitsSigned, true, nat_eq};
 ghost use Rattle.std.specs.Cmp.Lexicographic.{pointwise};
 ghost use Rattle.std.specs.Result.{result_map_both};
 ghost use Rattle.std.specs.List.{prefix_len};
 ghost use Rattle.std.specs.Int.{w64};
+ghost use Rattle.std.specs.Char.{is_ascii_digit};
 ghost use Rattle.tokens.specs.Text.{Comment, Place, is_blank, is_solid, opens_comment, is_passed, is_inside_after, place_after, skip, IsCountable, natural_of, value_after, signed_of, in_bounds, number_in, is_blank_line};
 ghost use Rattle.tokens.specs.Scanned.{first_token, following_token, head_digits, after_digits};
 
@@ -389,14 +390,13 @@ pub(crate) fn after_zeros(bytes: &[u8]) -> Option<&[u8]>
     Some(&bytes[15..])
 }
 
-/// The number from `least` to `greatest` that a first token of few digits writes; `None` where the token is anything else, and
-/// near the end of the bytes.
+/// The number that a first token of few digits writes; `None` where the token is anything else, and near the end of the bytes.
 #[inline(always)]
 #[tactic(auto, using(crate::proofs::Windows::window_steps))]
-pub(crate) fn short_number(bytes: &[u8], least: i64, greatest: i64) -> Option<Number<'_>>
-    ensures value { IfSome result (λ n. (place : Place) → number_in least greatest place (first_token bytes.now) ≡ Ok n.value) }
-    ensures range { IfSome result (λ n. (least ≤ℤ n.value) × (n.value ≤ℤ greatest)) }
-    ensures following { IfSome result (λ n. n.following.now ≡ following_token bytes.now) }
+fn short_natural(bytes: &[u8]) -> Option<Digits<'_>>
+    ensures size { IfSome result (λ d. option_map (λ n. min n (2 ^ 64 - 1)) (natural_of (first_token bytes.now)) ≡ Some d.size) }
+    ensures digit { IfSome result (λ _. is_ascii_digit (get_or bytes.now 0 0) ≡ true) }
+    ensures following { IfSome result (λ d. d.following.now ≡ following_token bytes.now) }
 {
     if bytes.len() < WINDOW {
         return None;
@@ -406,12 +406,43 @@ pub(crate) fn short_number(bytes: &[u8], least: i64, greatest: i64) -> Option<Nu
     if len == 0 || !begin_with_a_blank(digits.following) {
         return None;
     }
-    match signed(false, digits.size) {
+    Some(Digits {
+        size: digits.size,
+        following: &bytes[len..],
+    })
+}
+
+/// The number from `least` to `greatest` that a first token of few digits writes, after a minus or not.
+#[inline(always)]
+#[tactic(auto, using(crate::proofs::Windows::read_within))]
+fn short_within(is_negative: bool, digits: &[u8], least: i64, greatest: i64) -> Option<Number<'_>>
+    ensures value { IfSome result (λ n. (place : Place) → in_bounds least greatest place (option_map (signed_of is_negative) (natural_of (first_token digits.now))) ≡ Ok n.value) }
+    ensures digit { IfSome result (λ _. is_ascii_digit (get_or digits.now 0 0) ≡ true) }
+    ensures range { IfSome result (λ n. (least ≤ℤ n.value) × (n.value ≤ℤ greatest)) }
+    ensures following { IfSome result (λ n. n.following.now ≡ following_token digits.now) }
+{
+    let read = short_natural(digits)?;
+    match signed(is_negative, read.size) {
         Some(number) if least <= number && number <= greatest => Some(Number {
             value: number,
-            following: &bytes[len..],
+            following: read.following,
         }),
         _ => None,
+    }
+}
+
+/// The number from `least` to `greatest` that a first token of few bytes writes; `None` where the token is anything else, and
+/// near the end of the bytes.
+#[inline(always)]
+#[tactic(auto, using(crate::proofs::Scanning::after_minus))]
+pub(crate) fn short_number(bytes: &[u8], least: i64, greatest: i64) -> Option<Number<'_>>
+    ensures value { IfSome result (λ n. (place : Place) → number_in least greatest place (first_token bytes.now) ≡ Ok n.value) }
+    ensures range { IfSome result (λ n. (least ≤ℤ n.value) × (n.value ≤ℤ greatest)) }
+    ensures following { IfSome result (λ n. n.following.now ≡ following_token bytes.now) }
+{
+    match bytes {
+        [b'-', digits @ ..] => short_within(true, digits, least, greatest),
+        _ => short_within(false, bytes, least, greatest),
     }
 }
 
