@@ -178,7 +178,9 @@ const NUMBERS: &[Number] = &[
     (b"-9223372036854775809", Err(TextError::OutOfRange(HERE))),
     (b"18446744073709551617", Err(TextError::OutOfRange(HERE))),
     (b"-0", Ok(0)),
+    (b"-12              ", Ok(-12)),
     (b"-", Err(TextError::NotNumber(HERE))),
+    (b"-              ", Err(TextError::NotNumber(HERE))),
     (b"+1", Err(TextError::NotNumber(HERE))),
     (
         b"11111111111111111111111111111x",
@@ -216,6 +218,40 @@ fn numbers_of_any_length_are_read(rt: HostRuntime) -> Result<(), Fail> {
     zeros[4999] = b'7';
     has_number(&rt, zeros.as_slice(), Ok(7));
     Ok(())
+}
+
+/// A text, and the column of the token after its first eight zeros, where it begins with them.
+type Zeros = (&'static [u8], Option<u32>);
+
+const ZEROS: &[Zeros] = &[
+    (b"0 0 0 0 0 0 0 0 7", Some(17)),
+    (b"0 0 0 0 0 0 0 0 0 0", Some(17)),
+    (b"0 0 0 0 0 0 0 7 0", None),
+    (b"0 0 0 0 0 0 0 07 1", None),
+    (b"0 0 0 0  0 0 0 0 7", None),
+    (b"0 0 0 0\n0 0 0 0 7", None),
+    (b"0 0 0 0 0 0 0", None),
+    (b"", None),
+];
+
+/// Where the next token begins once eight zeros are passed over.
+fn after_zeros(bytes: &[u8]) -> Option<u32>
+    requires { length bytes.now < 2 ^ 32 - 1 }
+{
+    let mut tokens = Tokens::new(bytes, Comment::Never);
+    if tokens.pass_zeros() {
+        Some(tokens.place().column)
+    } else {
+        None
+    }
+}
+
+#[test]
+fn eight_zeros_are_passed_over(rt: HostRuntime) {
+    for (bytes, wanted) in ZEROS.iter().copied() {
+        assert!(rt; bytes.len() < 100);
+        equal(&rt, (bytes, after_zeros(bytes)), (bytes, wanted));
+    }
 }
 
 /// Appends a line with a count, and the digits.
