@@ -390,17 +390,15 @@ pub(crate) fn after_zeros(bytes: &[u8]) -> Option<&[u8]>
     Some(&bytes[15..])
 }
 
-/// The number that a first token of few digits writes; `None` where the token is anything else, and near the end of the bytes.
+/// The number that a first token of few digits writes; `None` where the token is anything else.
 #[inline(always)]
 #[tactic(auto, using(crate::proofs::Windows::window_steps))]
 fn short_natural(bytes: &[u8]) -> Option<Digits<'_>>
+    requires { 12 ≤ length bytes.now }
     ensures size { IfSome result (λ d. option_map (λ n. min n (2 ^ 64 - 1)) (natural_of (first_token bytes.now)) ≡ Some d.size) }
     ensures digit { IfSome result (λ _. is_ascii_digit (get_or bytes.now 0 0) ≡ true) }
     ensures following { IfSome result (λ d. d.following.now ≡ following_token bytes.now) }
 {
-    if bytes.len() < WINDOW {
-        return None;
-    }
     let digits = leading_digits(&bytes[..WINDOW]);
     let len = WINDOW - digits.following.len();
     if len == 0 || !begin_with_a_blank(digits.following) {
@@ -412,10 +410,12 @@ fn short_natural(bytes: &[u8]) -> Option<Digits<'_>>
     })
 }
 
-/// The number from `least` to `greatest` that a first token of few digits writes, after a minus or not.
+/// The number from `least` to `greatest` that a first token of few digits writes, after a minus or not; `None` where the token
+/// is anything else.
 #[inline(always)]
 #[tactic(auto, using(crate::proofs::Windows::read_within))]
 fn short_within(is_negative: bool, digits: &[u8], least: i64, greatest: i64) -> Option<Number<'_>>
+    requires { 12 ≤ length digits.now }
     ensures value { IfSome result (λ n. (place : Place) → in_bounds least greatest place (option_map (signed_of is_negative) (natural_of (first_token digits.now))) ≡ Ok n.value) }
     ensures digit { IfSome result (λ _. is_ascii_digit (get_or digits.now 0 0) ≡ true) }
     ensures range { IfSome result (λ n. (least ≤ℤ n.value) × (n.value ≤ℤ greatest)) }
@@ -440,6 +440,9 @@ pub(crate) fn short_number(bytes: &[u8], least: i64, greatest: i64) -> Option<Nu
     ensures range { IfSome result (λ n. (least ≤ℤ n.value) × (n.value ≤ℤ greatest)) }
     ensures following { IfSome result (λ n. n.following.now ≡ following_token bytes.now) }
 {
+    if bytes.len() <= WINDOW {
+        return None;
+    }
     match bytes {
         [b'-', digits @ ..] => short_within(true, digits, least, greatest),
         _ => short_within(false, bytes, least, greatest),

@@ -179,7 +179,7 @@ impl<'a> Tokens<'a> {
         self.next = next;
     }
 
-    /// Right after eight zeros, where these stand next on this line, with a space between each two.
+    /// Right after eight zeros, where these stand next on this line, with a space after each.
     #[inline(always)]
     #[tactic(auto, using(crate::proofs::Zeros::zero_steps))]
     fn after_next_zeros(&self) -> Option<Here<'a>>
@@ -203,8 +203,8 @@ impl<'a> Tokens<'a> {
         })
     }
 
-    /// Passes over eight zeros at once, where each is a token `0` on this line with a space between each two and a single
-    /// blank after them; tells whether they stood there.
+    /// Passes over eight zeros at once, where each is a token `0` on this line and single spaces stand between and after
+    /// them; tells whether they stood there.
     #[inline(always)]
     #[tactic(auto, unfolding(crate::specs::Text::at_token))]
     pub fn pass_zeros(&mut self) -> bool
