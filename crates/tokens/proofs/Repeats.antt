@@ -2,7 +2,7 @@
 use Rattle.std.proofs.Common.{◌≡◌, ℕ, List, [], ◌∷◌, ◌++◌, length, subst, refl, ap, ◌∙◌, append_assoc, append-nil, sym}
 use Rattle.std.specs.Prelude.{Result, fold, flat_map}
 use Rattle.tokens.specs.Text.{TextState, Comment}
-use Rattle.tokens.specs.Chain.{part_then, until, never, times}
+use Rattle.tokens.specs.Chain.{part_then, until, times}
 use Rattle.tokens.specs.Printed.{IsBefore, ReadsPart}
 
 module _ {A X E : Type 0} (part : A → TextState → Result (A × TextState) E) (print : X → List ℕ) (add : A → X → A) (comment : Comment) (P : A → List X → Type 0) where

@@ -110,7 +110,7 @@ digits_long xs =
     let left = length-drop (length (head_digits xs)) xs in
     omega arith
 
-empty : (xs : List ℕ) → length xs ≡ 0 → xs ≡ []
+pub empty : (xs : List ℕ) → length xs ≡ 0 → xs ≡ []
 empty [] h = refl
 empty (x ∷ xs) h = absurd (omega arith)
 

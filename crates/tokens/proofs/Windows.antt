@@ -1,5 +1,5 @@
 -- A number of few digits, read in a part of the bytes.
-use Rattle.std.proofs.Common.{◌≡◌, ◌≢◌, ℕ, zero, suc, ◌-◌, ◌^◌, ◌≤◌, ◌<◌, min, Bool, true, false, List, [], ◌∷◌, length, take, drop, get_or, refl, ap, ◌∙◌, sym, subst, arith}
+use Rattle.std.proofs.Common.{◌≡◌, ◌≢◌, ℕ, zero, suc, ◌-◌, ◌^◌, ◌≤◌, ◌<◌, min, Bool, true, false, List, [], ◌∷◌, length, take, drop, get_or, pos, refl, ap, ◌∙◌, sym, subst, arith}
 use Rattle.std.specs.Int.{w64}
 use Rattle.std.proofs.lemmas.Int.{ints}
 use Rattle.std.specs.Prelude.{Option, None, IfSome, FitsSigned, Some, option_map, ℤ, int_le, ◌&&◌, Ok}
@@ -8,7 +8,8 @@ use Rattle.std.specs.Char.{is_ascii_digit}
 use Rattle.tokens.specs.Text.{Place, is_solid, value_after, natural_of, number_in, in_bounds, signed_of}
 use Rattle.tokens.specs.Scanned.{first_token, following_token, head_digits, after_digits}
 use Rattle.tokens.proofs.Digits.{digit_range}
-use Rattle.tokens.proofs.Scanning.{digits_first, no_digits, token_first, blank_first, digits_long, digits_natural, after_alone, plain_number, minus_number}
+use Rattle.tokens.proofs.Values.{following_first}
+use Rattle.tokens.proofs.Scanning.{solid, empty, digits_first, no_digits, token_first, blank_first, digits_long, digits_natural, after_alone, plain_number, minus_number}
 
 -- where the digits end before a blank in the first n bytes, they are those of all bytes, and no token begins after them
 abbrev Same : ℕ → List ℕ → Type 0
@@ -117,3 +118,22 @@ module _ {X : Type 0} (value : X → ℤ) (least greatest : ℤ) (xs : List ℕ)
   pub digits_read : (read : Option X) → IfSome read (λ _. is_ascii_digit (get_or xs 0 0) ≡ true) → IfSome read (IsRead false xs) → IfSome read (λ n. (place : Place) → number_in least greatest place (first_token xs) ≡ Ok (value n))
   digits_read None digit is = tt
   digits_read (Some n) digit is = λ place. digit_number least greatest place xs digit ∙ is place
+
+-- a token of one digit is read, and what stands after it is what stands after the digit
+module _ (xs : List ℕ) (some : 1 ≤ length xs) (digit : is_ascii_digit (get_or xs 0 0) ≡ true) (ends : length (first_token (take (length xs - 1) (drop 1 xs))) ≡ 0) where
+  pub one_digit_token : first_token xs ≡ get_or xs 0 0 ∷ []
+  one_digit_token = go xs some digit ends where
+    go : (l : List ℕ) → 1 ≤ length l → is_ascii_digit (get_or l 0 0) ≡ true → length (first_token (take (length l - 1) (drop 1 l))) ≡ 0 → first_token l ≡ get_or l 0 0 ∷ []
+    go [] some digit ends = absurd (omega arith)
+    go (x ∷ l) some digit ends = token_first x l (solid x digit) ∙ ap (λ t. x ∷ t) (empty (first_token l) (rw (following_first x l) at ends))
+
+  pub one_digit_read : (least greatest number : ℤ) → number ≡ pos (get_or xs 0 0 - 48) → (int_le least number && int_le number greatest) ≡ true → (place : Place) → number_in least greatest place (first_token xs) ≡ Ok number
+  one_digit_read least greatest number is tests place =
+      let range = digit_range (get_or xs 0 0) digit in
+      let natural : option_map (λ k. min k (2 ^ 64 - 1)) (natural_of (first_token xs)) ≡ Some (get_or xs 0 0 - 48) = rw (one_digit_token, digit) (ap Some (omega arith)) in
+      digit_number least greatest place xs digit ∙ read_within false least greatest number place (natural_of (first_token xs)) (get_or xs 0 0 - 48) natural is (omega (arith, ints)) tests
+
+  pub one_digit_after : take (length xs - 1) (drop 1 xs) ≡ following_token xs
+  one_digit_after = let left = length-drop 1 xs in take_all (length xs - 1) (drop 1 xs) (omega arith) ∙ ap (λ l. drop (length l) xs) (sym one_digit_token)
+
+pub ruleset one_digit_steps = (one_digit_read, one_digit_after)

@@ -431,6 +431,41 @@ fn short_within(is_negative: bool, digits: &[u8], least: i64, greatest: i64) -> 
     }
 }
 
+/// The number of a digit.
+#[inline(always)]
+fn digit_value(digit: u8) -> i64
+    requires least { 48 ≤ digit }
+    requires greatest { digit ≤ 57 }
+    ensures { result ≡ pos (digit - 48) }
+{
+    i64::from(digit - b'0')
+}
+
+/// The number from `least` to `greatest` that a first token of one digit writes; `None` where the token is anything else.
+#[inline(always)]
+#[tactic(auto, using(crate::proofs::Windows::one_digit_steps))]
+fn one_digit(bytes: &[u8], least: i64, greatest: i64) -> Option<Number<'_>>
+    ensures value { IfSome result (λ n. (place : Place) → number_in least greatest place (first_token bytes.now) ≡ Ok n.value) }
+    ensures range { IfSome result (λ n. (least ≤ℤ n.value) × (n.value ≤ℤ greatest)) }
+    ensures following { IfSome result (λ n. n.following.now ≡ following_token bytes.now) }
+{
+    let [digit, following @ ..] = bytes else {
+        return None;
+    };
+    if !digit.is_ascii_digit() || !begin_with_a_blank(following) {
+        return None;
+    }
+    let number = digit_value(*digit);
+    if least <= number && number <= greatest {
+        Some(Number {
+            value: number,
+            following,
+        })
+    } else {
+        None
+    }
+}
+
 /// The number from `least` to `greatest` that a first token of few bytes writes; `None` where the token is anything else, and
 /// near the end of the bytes.
 #[inline(always)]
@@ -440,6 +475,9 @@ pub(crate) fn short_number(bytes: &[u8], least: i64, greatest: i64) -> Option<Nu
     ensures range { IfSome result (λ n. (least ≤ℤ n.value) × (n.value ≤ℤ greatest)) }
     ensures following { IfSome result (λ n. n.following.now ≡ following_token bytes.now) }
 {
+    if let Some(number) = one_digit(bytes, least, greatest) {
+        return Some(number);
+    }
     if bytes.len() <= WINDOW {
         return None;
     }

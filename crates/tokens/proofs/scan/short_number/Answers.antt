@@ -9,8 +9,8 @@ returns-in-45-clause-value c =
     let read : IfSome c.short_within.result (IsRead (λ n. n.value) c.args.least c.args.greatest bytes true (take (length bytes - 1) (drop 1 bytes))) = search rules in
     minus_read (λ n. n.value) c.args.least c.args.greatest bytes c.short_within.result c.in-45.len_at_least (cc) read
 
-pub returns-in_default-clause-value : goal.returns-in_default-clause-value
-returns-in_default-clause-value c =
+pub returns-in_default-bytes-clause-value : goal.returns-in_default-bytes-clause-value
+returns-in_default-bytes-clause-value c =
     let bytes = c.args.bytes.now in
-    let read : IfSome c.short_within-in_default.result (IsRead (λ n. n.value) c.args.least c.args.greatest bytes false bytes) = search rules in
-    digits_read (λ n. n.value) c.args.least c.args.greatest bytes c.short_within-in_default.result c.short_within-in_default.ensures.digit read
+    let read : IfSome c.short_within-in_default-bytes.result (IsRead (λ n. n.value) c.args.least c.args.greatest bytes false bytes) = search rules in
+    digits_read (λ n. n.value) c.args.least c.args.greatest bytes c.short_within-in_default-bytes.result c.short_within-in_default-bytes.ensures.digit read
