@@ -11,4 +11,3 @@ pub mod GoingOn
 pub mod Offered
 pub mod Drawn
 pub mod Left
-pub mod Asked
