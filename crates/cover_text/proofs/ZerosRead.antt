@@ -19,7 +19,7 @@ unfolding state_word_at
 word_read words s zero_next =
     ap (λ read. read_then read (λ z. Ok (words ++ z ∷ [], after_token s))) (zero_read (neg_ℤ (pos (2 ^ 63))) (pos (2 ^ 63 - 1)) s zero_next refl)
 
--- so many zeros are read as so many words
+-- this many zeros are read as this many words
 zeros_read : (k most i : ℕ) (words : List ℤ) (s : TextState) → i + k ≤ most → ZerosFollow k s
     → until ends_words state_word_at (most - i) words s ≡ until ends_words state_word_at (most - (i + k)) (words ++ replicate k (pos 0)) (passed_over k s)
 unfolding ZerosFollow passed_over
@@ -40,6 +40,6 @@ eight_read most block words s below follow =
     let places : 8 * block + 8 ≡ 8 * (block + 1) = omega arith in
     sym (zeros_read 8 most (8 * block) words s (omega arith) follow ∙ ap (λ n. until ends_words state_word_at (most - n) (words ++ replicate 8 (pos 0)) (passed_over 8 s)) places)
 
--- a zero is added to so many
+-- a zero is added to this many
 pub zero_added : (n : ℕ) (words : List ℤ) → (words ++ replicate n (pos 0)) ++ pos 0 ∷ [] ≡ words ++ replicate (n + 1) (pos 0)
 zero_added n words = append_assoc words (replicate n (pos 0)) (pos 0 ∷ []) ∙ ap (λ l. words ++ l) (replicate-append-replicate n 1 (pos 0))

@@ -14,7 +14,7 @@ further : ℕ → List ℕ → List ℕ
 further zero bytes = bytes
 further (suc n) bytes = 32 ∷ 48 ∷ further n bytes
 
--- where reading stands at these bytes, so many columns after a place
+-- where reading stands at these bytes, this many columns after a place
 abbrev stand : ℕ → Comment → Place → List ℕ → TextState
 stand n comment p bytes = record { rest = bytes; place = record { line = p.line; column = p.column + n }; fresh = false; comment = comment }
 
@@ -28,7 +28,7 @@ module _ (b : ℕ) (bs : List ℕ) (s : TextState) (p : Place) (blank : is_blank
   unfolding after_token
   after_one = rw (one_token, next.rest_is, next.place_is, next.comment_is) refl
 
--- so many zeros and one more stand next
+-- this many zeros and one more stand next
 zeros_next : (n b : ℕ) (bs : List ℕ) (s : TextState) (p : Place) → is_blank b ≡ true → ends_line s ≡ false → IsNextToken s (48 ∷ further n (b ∷ bs)) p
     → ZerosFollow (suc n) s × (passed_over (suc n) s ≡ stand (2 * n + 1) s.comment p (b ∷ bs))
 unfolding ZerosFollow passed_over further ends_line

@@ -1,7 +1,7 @@
 use Rattle.std.proofs.Common.{◌≡◌, ◌++◌, replicate, pos}
 use Rattle.cover_text.proofs.rows.add_zeros.Given as goal
 
--- so many zeros stand after the words
+-- this many zeros stand after the words
 abbrev pub invariant-loop : goal.invariant-loop
 invariant-loop l = record {
   words : l.rows.words ≡ l.initial.rows.words ++ replicate l.counter (pos 0);
