@@ -17,7 +17,7 @@ ghost use Rattle.answers.specs.Joins.{IsClaimOf, IsJoined, JoinsIn, JoinsTexts, 
 
 use crate::checking::refused;
 use crate::covering::{Subject, push_head};
-use bound_cover::Cover;
+use bound_cover::{Cover, MOST_BOUND};
 use cover_join::{JoinError, join};
 use cover_text::{CoverText, push_cover, read_covers};
 use dp_model::{DpModel, Found, OutOfMemory};
@@ -26,9 +26,6 @@ use problems::by_name;
 use solver_report::{Answer, JoinRefusal, Outcome, Solution};
 use std::alloc::Global;
 use std::sync::Arc;
-
-/// The greatest size of a bound that a text holds.
-const MOST_BOUND: i64 = 1 << 62;
 
 /// The answer to outputs of the parts of a problem, one after another: the output of the whole problem, or the first fault: of a text, or
 /// else of the first instance, or else of the parts.

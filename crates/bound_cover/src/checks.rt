@@ -17,6 +17,7 @@ ghost use Rattle.bound_cover.specs.declared.cover.Verdict.TheVariants.{Accepted}
 ghost use Rattle.bound_cover.specs.Exploring.{layer_of};
 
 use crate::cover::{CoverArc, Verdict, Why};
+use crate::numbers::{is_at_most, is_sum_within, is_triple_within};
 use crate::placed::{PlacedRow, Transition};
 use crate::storing::{Cover, LayerRows, RowRef};
 use dp_model::{DpModel, walk};
@@ -49,13 +50,6 @@ pub fn is_state_row<M: DpModel>(model: &M, k: usize, words: &[i64]) -> bool
     model.is_state(k, words)
 }
 
-/// Whether the three numbers together are at most another.
-fn is_sum_within(gain: i64, gap: i64, bound: i64, most: i64) -> bool
-    ensures { result ≡ int_le ((gain +ℤ gap) +ℤ bound) most }
-{
-    i128::from(gain) + i128::from(gap) + i128::from(bound) <= i128::from(most)
-}
-
 /// Whether the bound and the two numbers are at most another bound.
 fn is_within(gain: i64, gap: i64, bound: Option<i64>, most: Option<i64>) -> bool
     ensures { result ≡ is_at_most (add_some (gain +ℤ gap) bound) most }
@@ -66,7 +60,7 @@ fn is_within(gain: i64, gap: i64, bound: Option<i64>, most: Option<i64>) -> bool
     let Some(most) = most else {
         return false;
     };
-    is_sum_within(gain, gap, bound, most)
+    is_triple_within(gain, gap, bound, most)
 }
 
 /// The first failure of an arc to a row: it is there, is a state, and covers the next state within the bounds. Where it is `known` that
@@ -98,13 +92,6 @@ fn row_arc_fault<M: DpModel>(
     at.bound_fault(transition.decision, within)
 }
 
-/// Whether two numbers together are at most another.
-fn is_pair_within(gain: i64, rough: i64, most: i64) -> bool
-    ensures { result ≡ int_le (gain +ℤ rough) most }
-{
-    i128::from(gain) + i128::from(rough) <= i128::from(most)
-}
-
 /// Whether the rough bound and the gain are at most a bound.
 fn is_rough_within(gain: i64, rough: Option<i64>, most: Option<i64>) -> bool
     ensures { result ≡ is_at_most (add_some gain rough) most }
@@ -115,7 +102,7 @@ fn is_rough_within(gain: i64, rough: Option<i64>, most: Option<i64>) -> bool
     let Some(most) = most else {
         return false;
     };
-    is_pair_within(gain, rough, most)
+    is_sum_within(gain, rough, most)
 }
 
 /// The first failure of an arc of a decision that is allowed.
@@ -308,19 +295,6 @@ fn decisions_fault<M: DpModel, N: Rows>(
         return None;
     }
     first_decision_fault(model, next, at, step)
-}
-
-/// Whether an option is at most another, where none is less than every number.
-fn is_at_most(a: Option<i64>, b: Option<i64>) -> bool
-    ensures { result ≡ is_at_most a b }
-{
-    let Some(a) = a else {
-        return true;
-    };
-    match b {
-        None => false,
-        Some(b) => a <= b,
-    }
 }
 
 /// The failure of a row of the last layer: it has no arcs, and a bound of at least 0.

@@ -9,6 +9,7 @@ ghost use Rattle.cover_book.specs.Adding.{with_root_arcs, AreAdded, last_needed,
 use crate::diagrams::ShownDiagram;
 use crate::drafting::DraftLayer;
 use crate::rows::{arcs_of, leads_at, row_for};
+use bound_cover::MOST_ROWS;
 use dp_model::{DpModel, OutOfMemory};
 use std::alloc::Global;
 
@@ -20,7 +21,7 @@ pub(crate) fn rows_at(rows: &[DraftLayer], depth: usize) -> Result<u32, OutOfMem
         return Ok(0);
     }
     let count = rows[depth].len();
-    if count > 4_294_967_295 {
+    if count > MOST_ROWS {
         return Err(OutOfMemory);
     }
     Ok(count as u32)

@@ -1,9 +1,11 @@
 //! What rows claim: numbers of 128 bits, so that no sum leaves its type.
 
-ghost use Rattle.std.specs.Prelude.{◌≡◌, ◌+ℤ◌, ◌-ℤ◌, int_le, not, cond};
+ghost use Rattle.std.specs.Prelude.{◌≡◌, ◌-ℤ◌, not, cond};
 ghost use Rattle.dp_model.specs.Numbers.{add_some};
 ghost use Rattle.bound_cover.specs.Exploring.{rest_of, greater_of};
 ghost use Rattle.bound_cover.specs.Tests.{is_at_most};
+
+use bound_cover::is_sum_within;
 
 /// A number in more bits.
 fn wide(z: i64) -> i128
@@ -43,13 +45,6 @@ pub(crate) fn greater_of(suffix: Option<i64>, rest: Option<i128>) -> Option<i128
     } else {
         Some(suffix)
     }
-}
-
-/// Whether two numbers together are at most another.
-fn is_sum_within(value: i64, suffix: i64, most: i64) -> bool
-    ensures { result ≡ int_le (value +ℤ suffix) most }
-{
-    i128::from(value) + i128::from(suffix) <= i128::from(most)
 }
 
 /// Whether a value with a suffix leads above the claim.

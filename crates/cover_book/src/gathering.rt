@@ -9,15 +9,12 @@ use crate::serving::Servers;
 use crate::sources::{Below, NodeRow, RowSource, Wait};
 use crate::tracing::path_to;
 use crate::writing::{clamped_bound, highest, lowest};
-use bound_cover::{Cover, CoverArc, is_state_row};
+use bound_cover::{Cover, CoverArc, MOST_BOUND, MOST_ROWS, is_state_row};
 use dp_model::{DpModel, OutOfMemory};
 use std::alloc::Global;
 
 /// How many rows of a layer serve others while it is gathered.
 const MOST_SERVERS: usize = 1;
-
-/// The greatest size of a bound that a cover's text can hold.
-const MOST_BOUND: i64 = 4_611_686_018_427_387_904;
 
 /// A row that waits, by its number in its layer.
 #[derive(Debug, Drop)]
@@ -125,7 +122,7 @@ pub(crate) fn push_row(
     ensures { OnOk result (AreWritable cover.old → AreWritable cover.new) }
 {
     open_layer(cover)?;
-    if last_count(cover) >= 4_294_967_294 {
+    if last_count(cover) as usize >= MOST_ROWS {
         return Err(OutOfMemory);
     }
     cover.add_row(far_bound(bound), words, arcs)

@@ -5,16 +5,22 @@ ghost use Rattle.bound_cover.specs.Clamping.{lowest, highest, clamped, clamped_r
 ghost use Rattle.bound_cover.specs.Stored.{last_layer, with_row};
 
 use crate::drafting::{DraftLayer, DraftRow};
-use bound_cover::Cover;
+use bound_cover::{Cover, MOST_ROWS};
 use dp_model::{DpModel, OutOfMemory};
 use std::alloc::Global;
+
+/// The unit of the range of bounds: the greatest gain of an arc, with its gap, is twice this.
+const UNIT: i64 = 1 << 50;
+
+/// How many units the least bound of the first layer lies below 0.
+const LEAST_UNITS: i64 = 1027;
 
 /// The least bound of a layer.
 pub(crate) fn lowest(k: usize) -> i64
     requires { k ≤ 1024 }
     ensures { result ≡ lowest k }
 {
-    -((1027 + 2 * k as i64) * 1_125_899_906_842_624)
+    -((LEAST_UNITS + 2 * k as i64) * UNIT)
 }
 
 /// The greatest bound of a layer.
@@ -22,7 +28,7 @@ pub(crate) fn highest<M: DpModel>(model: &M, k: usize) -> i64
     requires { k ≤ (M.meaning (M.numbers model.now)).vars }
     ensures { result ≡ highest (M.meaning (M.numbers model.now)) k }
 {
-    (2 * (model.vars() - k) as i64 + 1) * 1_125_899_906_842_624
+    (2 * (model.vars() - k) as i64 + 1) * UNIT
 }
 
 /// A number that is brought between two others.
@@ -61,7 +67,7 @@ fn add_layer<M: DpModel>(
     let count = layer.len();
     cover.add_layer()?;
     'rows: for i in 0..count {
-        if i >= 4_294_967_295 {
+        if i >= MOST_ROWS {
             return Err(OutOfMemory);
         }
         let row = layer.row(i);

@@ -8,13 +8,10 @@ ghost use Rattle.cover_join.specs.Joined.{joined_layer, joined_layers, shifted_a
 ghost use Rattle.cover_join.specs.Joining.{answers_in};
 
 use crate::arcs::{rows_of, shifted, with_rows};
-use bound_cover::{Cover, CoverArc};
+use bound_cover::{Cover, CoverArc, MOST_ROWS};
 use cover_text::CoverText;
 use dp_model::OutOfMemory;
 use std::alloc::Global;
-
-/// The greatest number of rows of a layer.
-const MOST_ROWS: usize = u32::MAX as usize;
 
 /// Adds a row to the last layer, where it has room.
 #[tactic(auto, using(crate::proofs::Rows::last_is, crate::proofs::Rows::length_with_row))]

@@ -8,22 +8,9 @@ ghost use Rattle.cover_text.specs.Texts.{text_in};
 ghost use Rattle.cover_join.specs.Joined.{best_answer, is_root_row, root_arcs, have_arcs};
 ghost use Rattle.cover_join.specs.Joining.{answer_of, answers_in};
 
-use bound_cover::{Cover, CoverArc};
+use bound_cover::{Cover, CoverArc, is_at_most, is_sum_within};
 use cover_text::CoverText;
-use dp_model::{DpModel, OutOfMemory};
-
-/// Whether the first number is at most the second one; none is less than every number.
-fn is_at_most(one: Option<i64>, other: Option<i64>) -> bool
-    ensures { result ≡ is_at_most one other }
-{
-    let Some(one) = one else {
-        return true;
-    };
-    let Some(other) = other else {
-        return false;
-    };
-    one <= other
-}
+use dp_model::{DpModel, OutOfMemory, row_same};
 
 /// The text with the greater value; the first one of two that have the same value.
 fn better<'t>(one: &'t CoverText, other: &'t CoverText) -> &'t CoverText
@@ -49,13 +36,6 @@ pub(crate) fn best_of<'t>(first: &'t CoverText, more: &'t [CoverText]) -> &'t Co
     best
 }
 
-/// Whether the sum of the two numbers is at most the third one.
-fn is_sum_within(bound: i64, root_value: i64, best: i64) -> bool
-    ensures { result ≡ int_le (bound +ℤ root_value) best }
-{
-    i128::from(bound) + i128::from(root_value) <= i128::from(best)
-}
-
 /// Whether a bound is at most what the value leaves above that of the root.
 #[tactic(auto, using(crate::proofs::RootRows::within_rest))]
 fn is_within(bound: Option<i64>, best: Option<i64>, root_value: i64) -> bool
@@ -70,13 +50,6 @@ fn is_within(bound: Option<i64>, best: Option<i64>, root_value: i64) -> bool
     is_sum_within(bound, root_value, best)
 }
 
-/// Whether two rows are the same.
-fn are_same(one: &[i64], other: &[i64]) -> bool
-    ensures { result ≡ row_same one.now other.now }
-{
-    one == other
-}
-
 /// Whether the row of the first layer is the root, with a bound within what the value leaves.
 #[tactic(auto, using(crate::proofs::RootRows::root_seen))]
 fn is_root_row<M: DpModel>(model: &M, root: &[i64], text: &CoverText, row: usize) -> bool
@@ -84,7 +57,7 @@ fn is_root_row<M: DpModel>(model: &M, root: &[i64], text: &CoverText, row: usize
     requires there { row < length (layer_of text.now.cover 0) }
     ensures { option_map (is_root_row (M.meaning (M.numbers model.now)) text.now.best) (slice_get (layer_of text.now.cover 0) row) ≡ Some result }
 {
-    are_same(text.cover.words(0, row), root)
+    row_same(text.cover.words(0, row), root)
         && is_within(text.cover.bound(0, row), text.best, model.root_value())
 }
 

@@ -8,11 +8,9 @@ ghost use Rattle.cover_text.specs.RowLines.{bound_at, semicolon_at, state_word_a
 
 use crate::cover_error::CoverError;
 use crate::fixed::{early_end, next_small, pass_word};
-use bound_cover::{CoverArc, CoverBuilder};
-use std::alloc::AllocError as OutOfMemory;
+use bound_cover::{CoverArc, CoverBuilder, MOST_BOUND};
+use dp_model::OutOfMemory;
 use tokens::Tokens;
-
-const MOST_BOUND: i64 = 1 << 62;
 
 /// Reads a bound: `none`, or a number from `-2^62` to `2^62`.
 #[inline]

@@ -3,7 +3,6 @@ pub mod Lists
 pub mod Matching
 pub mod Prefixes
 pub mod Reaches
-pub mod RowTests
 pub mod Widths
 pub mod Restricted
 pub mod Diagrams

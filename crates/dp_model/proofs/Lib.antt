@@ -3,6 +3,7 @@ pub mod FoldSteps
 pub mod Members
 pub mod Paths
 pub mod RowLemmas
+pub mod RowTests
 pub mod Sizes
 pub mod Solutions
 pub mod Walks

@@ -9,3 +9,12 @@ pub const MOST_COST: u64 = 1 << 25;
 
 /// The greatest number of workers of a search.
 pub const MOST_WORKERS: u32 = 16;
+
+/// The greatest number of choices of a layer.
+pub const MOST_CHOICES: usize = 1024;
+
+/// The greatest number of leaders of a layer: the nodes that others are compared with for dominance.
+pub const MOST_LEADERS: usize = 16;
+
+/// The greatest number of parts in which the layers of a relaxed diagram are made.
+pub const MOST_LAYER_PARTS: u32 = 64;

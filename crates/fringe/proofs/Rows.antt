@@ -8,7 +8,7 @@ use Rattle.dp_model.proofs.RowLemmas.{row_same-is}
 use Rattle.dp_laws.specs.Pairs.{EachTwo}
 use Rattle.dp_model.proofs.Members.{Each-then}
 use Rattle.fringe.proofs.Tickets.{without-later}
-use Rattle.dp_laws.proofs.RowTests.{same-self, same-tests}
+use Rattle.dp_model.proofs.RowTests.{same-self, same-tests}
 use Rattle.fringe.specs.Tickets.{Ticketed, HasTickets, without}
 use Rattle.fringe.specs.Fringe.{is_same, same_at, AreDifferent}
 

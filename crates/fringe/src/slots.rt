@@ -1,12 +1,12 @@
 //! What a slot has.
 
 ghost use Rattle.std.specs.Prelude.{◌≡◌, option_copied};
-ghost use Rattle.dp_model.specs.Rows.{row_same};
 ghost use Rattle.fringe.specs.Fringe.{is_same};
 ghost use Rattle.fringe.specs.Slots.{in_slot, is_low, has_rank, is_same_in};
 
 use crate::listed::Listed;
 use crate::rank::Rank;
+use dp_model::row_same;
 
 /// The open one in the slot, where it has one.
 pub fn in_slot(slots: &[Option<Listed>], slot: u32) -> Option<&Listed>
@@ -35,13 +35,6 @@ pub fn is_low(slots: &[Option<Listed>], slot: u32, value: i64) -> bool
         Some(one) => one.sub.bound <= value,
         None => false,
     }
-}
-
-/// Whether two rows are the same.
-fn row_same(one: &[i64], other: &[i64]) -> bool
-    ensures { result ≡ row_same one.now other.now }
-{
-    one == other
 }
 
 /// Whether it is the one of the depth and state.

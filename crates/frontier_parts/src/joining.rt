@@ -4,6 +4,8 @@ ghost use Rattle.std.specs.Prelude.{◌≡◌};
 ghost use Rattle.bound_cover.specs.Tests.{is_at_most};
 ghost use Rattle.frontier_parts.specs.Settled.{better, is_same, joined, joined_place, place_from};
 
+use bound_cover::is_at_most;
+
 /// The greatest value, and which one it is.
 #[derive(Clone, Copy)]
 pub struct JoinedValue {
@@ -24,19 +26,6 @@ fn better(one: Option<i64>, other: Option<i64>) -> Option<i64>
         return one;
     };
     if a <= b { Some(b) } else { Some(a) }
-}
-
-/// Whether the first number is at most the second one; none is less than every number.
-fn is_at_most(one: Option<i64>, other: Option<i64>) -> bool
-    ensures { result ≡ is_at_most one other }
-{
-    let Some(one) = one else {
-        return true;
-    };
-    let Some(other) = other else {
-        return false;
-    };
-    one <= other
 }
 
 /// Whether both are the same number, or both are none.

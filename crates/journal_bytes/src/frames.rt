@@ -5,6 +5,18 @@ ghost use Rattle.journal_bytes.specs.Found.{found};
 use crate::sealing::digest_over;
 use std::alloc::{AllocError, Global};
 
+/// The gate before a record that is whole.
+pub const OPEN_GATE: u8 = 1;
+
+/// The gate after the last whole record.
+pub const CLOSED_GATE: u8 = 0;
+
+/// The kind of the first record, the head.
+pub const HEAD_KIND: u8 = 1;
+
+/// The length of a body has 32 bits, so a body has fewer bytes than this.
+pub const BODY_LIMIT: u64 = 1 << 32;
+
 /// How many bytes a record takes in the file beside its body: its gate, its kind, the length of the body and the digest.
 pub const FRAME_OVERHEAD: usize = 38;
 

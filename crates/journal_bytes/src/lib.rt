@@ -28,7 +28,7 @@ mod tests;
 mod writing;
 
 pub use counting::body_size;
-pub use frames::FRAME_OVERHEAD;
+pub use frames::{BODY_LIMIT, CLOSED_GATE, FRAME_OVERHEAD, HEAD_KIND, OPEN_GATE};
 pub use head::{Head, MOST_WITHIN, PART_VERSION, Part, VERSION};
 pub use journal::read_journal;
 pub use record::{Child, Incumbent, Listed, Record};

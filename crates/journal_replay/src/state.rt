@@ -2,23 +2,15 @@
 
 ghost use Rattle.std.specs.Prelude.{◌≡◌, ◌∷◌, ◌++◌, [], ◌+◌, IfOk, OnOk, length, option_map};
 ghost use Rattle.dp_laws.specs.Children.{is_at};
-ghost use Rattle.dp_model.specs.Rows.{row_same};
 ghost use Rattle.dp_model.specs.Subproblem.{SubView};
 ghost use Rattle.board.specs.Opened.{ticketed};
 ghost use Rattle.journal_replay.specs.Accepting.{is_like};
 ghost use Rattle.journal_replay.specs.Places.{AreInOrder, PlaceIs, listed_in};
 ghost use Rattle.journal_replay.specs.Replay.{listed_at, taken_off};
 
-use dp_model::{OutOfMemory, Sub};
+use dp_model::{OutOfMemory, Sub, row_same};
 use std::alloc::Global;
 use std::marker::Model;
-
-/// Whether two rows are the same.
-fn row_same(one: &[i64], other: &[i64]) -> bool
-    ensures { result ≡ row_same one.now other.now }
-{
-    one == other
-}
 
 /// Whether a subproblem has the depth and state of another.
 fn is_same(one: &Sub, other: &Sub) -> bool

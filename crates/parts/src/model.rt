@@ -3,14 +3,7 @@ ghost use Rattle.std.specs.Arc.{arc_value};
 ghost use Rattle.dp_model.specs.Rows.{row_same};
 
 use crate::part::Part;
-use dp_model::{DpModel, Extended};
-
-/// Whether two rows are the same.
-fn are_same(a: &[i64], b: &[i64]) -> bool
-    ensures { result ≡ row_same a.now b.now }
-{
-    a == b
-}
+use dp_model::{DpModel, Extended, row_same};
 
 #[tactic(auto, using(crate::specs::Laws::state_test, crate::specs::Laws::whole_state))]
 impl<M: DpModel> DpModel for Part<M> {
@@ -68,7 +61,7 @@ impl<M: DpModel> DpModel for Part<M> {
         if k > 0 {
             return self.model.gap(k, a, s);
         }
-        if are_same(a, s) { Some(0) } else { None }
+        if row_same(a, s) { Some(0) } else { None }
     }
 
     fn rough(&self, k: usize, s: &[i64]) -> Option<i64> {
@@ -91,7 +84,7 @@ impl<M: DpModel> DpModel for Part<M> {
         if k > 0 {
             self.model.is_state(k, s)
         } else {
-            are_same(s, self.root.as_slice())
+            row_same(s, self.root.as_slice())
         }
     }
 
@@ -122,7 +115,7 @@ impl<M: DpModel> DpModel for Part<M> {
         if k > 0 {
             return self.model.covers_within(k, a, rank_a, s, rank_s, most);
         }
-        if are_same(a, s) && most >= 0 {
+        if row_same(a, s) && most >= 0 {
             Some(0)
         } else {
             None

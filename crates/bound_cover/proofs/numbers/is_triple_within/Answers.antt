@@ -1,7 +1,7 @@
 use Rattle.std.proofs.Common.{FitsSigned, w64, arith}
 use Rattle.std.proofs.lemmas.Int.{ints}
 use Rattle.bound_cover.proofs.Sums.{sums-as}
-use Rattle.bound_cover.proofs.checks.is_sum_within.Goals as goal
+use Rattle.bound_cover.proofs.numbers.is_triple_within.Goals as goal
 
 pub returns : goal.returns
 returns c =
