@@ -5,96 +5,125 @@ a cut and the variables of a MAX-2SAT instance or of a quadratic one by falling 
     tools/reorder.py MODEL FILE                      prints the instance of FILE, renumbered
     tools/reorder.py MODEL FILE --back < REPORT      prints a report on that, with its assignment in the numbers of FILE
 
-MODEL is knapsack, maxcut, max2sat or qubo. The weight of a vertex or a variable is the sum of the sizes of the weights that it has a part in. Nothing of
-this is proved: `digest` and `check` speak of the instance in its new order.
+MODEL is knapsack, maxcut, max2sat or qubo. The weight of a vertex or a variable is the sum of the sizes of the weights that it has a part in. FILE is read as
+the Python client reads it: a text that is no instance is refused with the place of its first fault. Nothing of this is proved: `digest` and `check` speak of
+the instance in its new order.
 """
+
+from __future__ import annotations
+
+import os
 import sys
+from collections.abc import Callable, Iterable, Sequence
+from pathlib import Path
+
+sys.path.insert(0, str(Path(__file__).resolve().parent.parent / "python"))
+
+try:
+    from hammockdove import HammockdoveError, Instance, Knapsack, Max2Sat, MaxCut, Qubo
+except ModuleNotFoundError:
+    sys.exit("reorder.py: Python does not find the client `hammockdove`; add its folder to PYTHONPATH")
 
 
-def read_pairs(lines):
-    """The number of vertices or variables, and the edges or lines with their weights."""
-    words = [int(word) for word in " ".join(lines).split()]
-    return words[0], [(words[at + 2], words[at:at + 2]) for at in range(2, len(words), 3)]
+def falling(weights: Sequence[float]) -> list[int]:
+    """The old places in their new order: the greatest weight first."""
+    return sorted(range(len(weights)), key=lambda at: -weights[at])
 
 
-def read_clauses(lines):
-    """The number of variables, and the clauses with their weights."""
-    lines = [line for line in lines if line.split()[:1] not in ([], ["c"])]
-    kind, variables = lines[0].split()[1:3]
-    numbers, clauses, clause = [int(word) for line in lines[1:] for word in line.split()], [], []
-    for number in numbers:
-        if number == 0 and (clause or kind == "cnf"):
-            clauses.append((1, clause) if kind == "cnf" else (clause[0], clause[1:]))
-            clause = []
-        else:
-            clause.append(number)
-    return int(variables), clauses
+def by_weight(count: int, parts: Iterable[tuple[int, Iterable[int]]]) -> list[int]:
+    """The order by the sizes of the weights in which each place has a part."""
+    total = [0] * count
+    for weight, members in parts:
+        for member in set(members):
+            total[member] += abs(weight)
+    return falling(total)
 
 
-def read_items(lines):
-    """The capacity, and the items as they stand, each on a line."""
-    lines = [line.split() for line in lines if line.split()]
-    return int(lines[0][1]), [[int(word) for word in line] for line in lines[1:]]
+def places_of(order: Sequence[int]) -> list[int]:
+    """The new place of each old one."""
+    places = [0] * len(order)
+    for new, old in enumerate(order):
+        places[old] = new
+    return places
 
 
-def order_of_items(items):
-    """The old numbers in their new order; items without weight come first."""
-    worth = [item[0] / item[1] if item[1] else float("inf") for item in items]
-    return sorted(range(1, len(items) + 1), key=lambda number: -worth[number - 1])
+def of_knapsack(instance: Knapsack) -> tuple[list[int], Knapsack]:
+    items = instance.items
+    order = falling([profit / weight if weight else float("inf") for profit, weight, _ in items])
+    return order, Knapsack.from_items(instance.capacity, [items[at] for at in order])
 
 
-def order_of(count, parts):
-    """The old numbers in their new order."""
-    weight = [0] * (count + 1)
-    for size, members in parts:
-        for member in set(map(abs, members)):
-            weight[member] += abs(size)
-    return sorted(range(1, count + 1), key=lambda number: -weight[number])
+def of_cut(instance: MaxCut) -> tuple[list[int], MaxCut]:
+    order = by_weight(instance.vertices, ((weight, (i, j)) for i, j, weight in instance.edges))
+    place = places_of(order)
+    ends = ((sorted((place[i], place[j])), weight) for i, j, weight in instance.edges)
+    return order, MaxCut(instance.vertices, [(i, j, weight) for (i, j), weight in ends])
 
 
-def reordered_items(capacity, items, order):
-    return "\n".join([f"{len(items)} {capacity}"] + [" ".join(map(str, items[number - 1])) for number in order])
+def of_qubo(instance: Qubo) -> tuple[list[int], Qubo]:
+    order = by_weight(instance.variables, ((weight, (i, j)) for i, j, weight in instance.lines))
+    place = places_of(order)
+    ends = ((sorted((place[i], place[j])), weight) for i, j, weight in instance.lines)
+    return order, Qubo(instance.variables, [(i, j, weight) for (i, j), weight in ends])
 
 
-def renumbered(model, count, parts, order):
-    place = {old: new for new, old in enumerate(order, 1)}
-    moved = [(size, [place[abs(m)] * (1 if m > 0 else -1) for m in members]) for size, members in parts]
-    if model in ("maxcut", "qubo"):
-        lines = [f"{count} {len(moved)}"] + [f"{min(ms)} {max(ms)} {size}" for size, ms in moved]
-    else:
-        lines = [f"p wcnf {count} {len(moved)}"] + [f"{size} {' '.join(map(str, ms + [0]))}" for size, ms in moved]
-    return "\n".join(lines)
+def of_clauses(instance: Max2Sat) -> tuple[list[int], Max2Sat]:
+    order = by_weight(instance.variables, ((weight, [abs(it) - 1 for it in literals]) for weight, literals in instance.clauses))
+    place = places_of(order)
+
+    def moved(literal: int) -> int:
+        variable = place[abs(literal) - 1] + 1
+        return variable if literal > 0 else -variable
+
+    return order, Max2Sat(instance.variables, [(weight, tuple(map(moved, literals))) for weight, literals in instance.clauses])
 
 
-def put_back(model, order, line):
+KINDS: dict[str, tuple[type[Instance], Callable]] = {
+    "knapsack": (Knapsack, of_knapsack),
+    "maxcut": (MaxCut, of_cut),
+    "max2sat": (Max2Sat, of_clauses),
+    "qubo": (Qubo, of_qubo),
+}
+
+
+def put_back(model: str, order: Sequence[int], line: str) -> str:
     """The line of an assignment in the old numbers; of a cut vertex 1 is on side 0."""
-    if not line.startswith("assignment"):
+    words = line.split()
+    if words[:1] != ["assignment"]:
         return line
-    given = dict(zip(order, map(int, line.split()[1:])))
-    values = [given[number] for number in sorted(given)]
+    given = [int(word) for word in words[1:]]
+    if len(given) != len(order):
+        raise ValueError(f"an assignment of {len(given)} numbers to an instance of {len(order)}")
+    values = [given[place] for place in places_of(order)]
     if model == "maxcut" and values and values[0] == 1:
         values = [1 - value for value in values]
-    return " ".join(["assignment"] + [str(value) for value in values])
+    return " ".join(["assignment", *map(str, values)])
 
 
-def main():
-    readers = {"knapsack": read_items, "maxcut": read_pairs, "max2sat": read_clauses, "qubo": read_pairs}
-    if len(sys.argv) not in (3, 4) or sys.argv[1] not in readers or sys.argv[3:] not in ([], ["--back"]):
+def run(model: str, file: str, back: bool) -> None:
+    kind, reordered = KINDS[model]
+    order, instance = reordered(kind.from_text(Path(file).read_text(encoding="utf-8")))
+    if not back:
+        sys.stdout.write(instance.text())
+        return
+    for line in sys.stdin:
+        print(put_back(model, order, line.rstrip("\n")))
+
+
+def main() -> None:
+    if len(sys.argv) not in (3, 4) or sys.argv[1] not in KINDS or sys.argv[3:] not in ([], ["--back"]):
         sys.exit(__doc__)
-    model = sys.argv[1]
+    model, file = sys.argv[1:3]
     try:
-        with open(sys.argv[2], encoding="ascii") as file:
-            number, parts = readers[model](file.read().splitlines())
+        run(model, file, len(sys.argv) == 4)
+        sys.stdout.flush()
+    except BrokenPipeError:
+        # Whoever reads has enough; the interpreter flushes once more at its end.
+        os.dup2(os.open(os.devnull, os.O_WRONLY), sys.stdout.fileno())
     except OSError as fault:
-        sys.exit(f"reorder.py: {sys.argv[2]}: {fault.strerror}")
-    except (ValueError, IndexError):
-        sys.exit(f"reorder.py: {sys.argv[2]} is no instance of {model}; `solve {model}` tells the place of the fault")
-    order = order_of_items(parts) if model == "knapsack" else order_of(number, parts)
-    if len(sys.argv) == 3:
-        print(reordered_items(number, parts, order) if model == "knapsack" else renumbered(model, number, parts, order))
-    else:
-        for line in sys.stdin:
-            print(put_back(model, order, line.rstrip("\n")))
+        sys.exit(f"reorder.py: {file}: {fault.strerror}")
+    except (HammockdoveError, ValueError) as fault:
+        sys.exit(f"reorder.py: {file}: {fault}")
 
 
 if __name__ == "__main__":

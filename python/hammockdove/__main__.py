@@ -128,7 +128,12 @@ def main(arguments: Sequence[str] | None = None) -> int:
     words = _parser().parse_args(arguments)
     try:
         act: Callable[[argparse.Namespace], int] = words.act
-        return act(words)
+        status = act(words)
+        if sys.stdout is None:
+            print("standard output is closed", file=sys.stderr)
+            return _REFUSED
+        sys.stdout.flush()
+        return status
     except (NotBegun, ProgramFailed) as fault:
         print(fault, file=sys.stderr)
         return _REFUSED
@@ -136,7 +141,7 @@ def main(arguments: Sequence[str] | None = None) -> int:
         print(f"{words.file}: {fault}", file=sys.stderr)
         return _REFUSED
     except OSError as fault:
-        print(f"{fault.filename or words.file}: {fault.strerror}", file=sys.stderr)
+        print(f"{fault.filename or 'standard output'}: {fault.strerror}", file=sys.stderr)
         return _REFUSED
     except KeyboardInterrupt:
         return _INTERRUPTED

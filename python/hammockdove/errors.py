@@ -96,7 +96,7 @@ _OF_REPORTS = {
 }
 _OF_JOURNALS = {
     "exists": ": resume goes on with the search that is there; a new search needs another file",
-    "not-begun": ": its search had not begun, and solve begins it",
+    "not-begun": ": its search had not begun, and solve begins it; or the file is no journal at all, so look what it holds",
     "version": ": this program reads the versions 1 and 2",
     "damaged": ": something other than a crash changed it; hammockdove.show tells what stands before",
     "malformed": ": something other than a crash changed it; hammockdove.show tells what stands before",

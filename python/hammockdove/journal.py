@@ -158,8 +158,17 @@ def read(path: str | Path) -> tuple[Head, list[Entry]]:
     journal = Journal(Path(path))
     entries = list(journal.advance())
     if journal.head is None:
-        raise NotBegun(f"{path} holds no journal yet: it has at most one byte, or its first gate is closed")
+        raise not_begun(path)
     return journal.head, entries[1:]
+
+
+def not_begun(path: str | Path) -> NotBegun:
+    """Why a file has no head: its search has not begun, or it is another file."""
+    with open(path, "rb") as file:
+        first = file.read(1)
+    if first not in (b"", b"\0", _OPEN):
+        return NotBegun(f"{path} is no journal: its first byte is neither 0 nor 1")
+    return NotBegun(f"{path} holds no journal yet: it has at most one byte, or its first gate is closed")
 
 
 class _Body:

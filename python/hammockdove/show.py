@@ -8,8 +8,8 @@ from dataclasses import dataclass, field
 from pathlib import Path
 from typing import NamedTuple
 
-from .errors import JournalDamaged, NotBegun
-from .journal import Entry, Finish, Head, Improve, Journal, Snapshot
+from .errors import JournalDamaged
+from .journal import Entry, Finish, Head, Improve, Journal, Snapshot, not_begun
 from .progress import Progress, Tracker
 
 _KINDS = (Improve, Finish, Snapshot)
@@ -69,7 +69,7 @@ def contents_of(path: str | Path) -> Contents:
             raise
         found.refusal = refusal
     if found is None:
-        raise NotBegun(f"{path} holds no journal yet: it has at most one byte, or its first gate is closed")
+        raise not_begun(path)
     found.progress, found.end = tracker.progress(), journal.offset
     return found
 

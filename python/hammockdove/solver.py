@@ -105,7 +105,7 @@ class Solver:
         words += ["--stats", *(["--cover"] if cover else [])]
         path = None if journal is False else self._journal_path(journal)
         if path is not None:
-            words += ["--journal", str(path)]
+            words.append(f"--journal={path}")
         left: Result | None = None
         try:
             result = left = self._search(words, given, path, timeout, progress, every)
@@ -414,7 +414,7 @@ def _offers_of(incumbents: Iterable[Report]) -> _Offers:
 
 def _options(**given: object) -> list[str]:
     """The options that were given, as the program's words."""
-    return [word for name, value in given.items() if value is not None for word in (f"--{name}", str(value))]
+    return [f"--{name}={value}" for name, value in given.items() if value is not None]
 
 
 def _remove(path: Path | None) -> None:
@@ -424,9 +424,11 @@ def _remove(path: Path | None) -> None:
 
 
 def _require(journal: str | Path) -> None:
-    """Refuses a file that is not there: the program would make an empty one."""
+    """Refuses a file that is not there, since the program would make an empty one, and what is no file."""
     if not Path(journal).exists():
         raise NotBegun(f"{journal} is not there: a search makes it with journal=")
+    if Path(journal).is_dir():
+        raise HammockdoveError(f"{journal} is a folder, not the file of a journal")
 
 
 def _head_of(path: str | Path) -> Head | None:

@@ -66,7 +66,7 @@ class RecordedTests(RoomCase):
 
     def test_resume_part(self):
         result = self.answers(report(1, rest="taken 1\nfinished 1\n")).resume_part(self.part, width=1, workers=2)
-        self.assertEqual(self.words(), [f"resume {self.part} --workers 2 --width 1 --stats"])
+        self.assertEqual(self.words(), [f"resume {self.part} --workers=2 --width=1 --stats"])
         self.assertEqual((result.outcome, result.value, result.bound, result.journal), (PartOutcome.SETTLED, 120, 120, self.part))
         self.assertEqual(result.part, hammockdove.journal.read(self.part)[0].part)
         stopped = self.answers(report(1, "110", "1 1 0", "stopped budget", "bound 120\ntaken 0\nfinished 0\n"), 2).resume_part(self.part, budget=0)
@@ -77,7 +77,7 @@ class RecordedTests(RoomCase):
         solver = self.answers(report(1))
         for incumbents, given in (([first], report(0)), ([report(0).encode(), report(1)], report(0) + report(1)), (iter([report(1)]), report(1))):
             solver.resume_part(self.part, incumbents=incumbents, width=1)
-            self.assertEqual(self.words()[-1], f"resume {self.part} --incumbent --width 1 --stats")
+            self.assertEqual(self.words()[-1], f"resume {self.part} --incumbent --width=1 --stats")
             self.assertEqual((self.room / "input").read_text(), given)
         result = self.answers("proved\nvalue 120\nassignment 0 1 1\n").resume(self.journal, incumbents=[first])
         self.assertEqual((result.value, self.words()[-1]), (120, f"resume {self.journal} --incumbent --stats"))

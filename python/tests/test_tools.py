@@ -68,6 +68,8 @@ class CommandTests(RoomCase):
         self.assertEqual((status, out.splitlines()[-1], err), (3, "end 137", f"{path}: journal damaged at byte 137: the file ends inside a record\n"))
         self.assertEqual(said(main, "show", self.room / "none")[::2], (3, f"{self.room / 'none'}: No such file or directory\n"))
         path.write_bytes(b"no journal")
+        self.assertEqual(said(main, "show", path)[2], f"{path} is no journal: its first byte is neither 0 nor 1\n")
+        path.write_bytes(b"\0")
         self.assertEqual(said(main, "show", path)[2], f"{path} holds no journal yet: it has at most one byte, or its first gate is closed\n")
 
     def test_watch_and_plot(self):
@@ -96,6 +98,38 @@ class ReorderTests(RoomCase):
                     report = f"value {new.value(found)}\n{' '.join(map(str, ('assignment', *found)))}\n"
                     back = self.run_tool([model, path, "--back"], report)[1].splitlines()
                     self.assertEqual(old.value([int(it) for it in back[1].split()[1:]]), new.value(found), model)
+
+    def test_items_over_lines(self):
+        """Each text is an instance, however its tokens are spread over lines."""
+        path = self.room / "file"
+        for model, text, wanted in (
+            ("knapsack", "2 10 60 5\n50 4\n", "2 10\n50 4\n60 5\n"),
+            ("knapsack", "2\n10\n60\n5 2\n50 4", "2 10\n50 4\n60 5 2\n"),
+            ("max2sat", "p cnf 2 2\n1 2 0\n-1 2 0\n%\n0\n", "p wcnf 2 2\n1 1 2 0\n1 -1 2 0\n"),
+            ("maxcut", "3 3 1 1 4 1 2 5\n2 3 -2\n", "3 3\n1 1 4\n1 2 5\n2 3 -2\n"),
+        ):
+            with self.subTest(model=model, text=text):
+                path.write_text(text)
+                self.assertEqual(self.run_tool([model, path]), (0, wanted))
+
+    def test_what_is_no_instance_is_refused(self):
+        """No text that the program refuses becomes another instance."""
+        path = self.room / "file"
+        for model, text in (
+            ("knapsack", "3 10 60 5 50 4 70 6\n"),
+            ("knapsack", "3 10\n60 5\n50 4\n70 6\n0 1 1\n"),
+            ("knapsack", "4 10\n60 5\n50 4\n70 6\n"),
+            ("maxcut", "3 3\n1 2\n2 3\n1 3\n"),
+            ("maxcut", "3 3\n1 2 4\n2 3 1\n"),
+            ("maxcut", "3 1\n0 2 4\n"),
+            ("max2sat", "p wcnf 1 3 4\n4 1 0\n3 -1 0\n3 -1 0\n"),
+            ("max2sat", "p wcnf 2 3\n1 1 0\n1 2 0\n"),
+            ("max2sat", "p wcnf 2 1\n1 1 2\n"),
+            ("qubo", "2 1\n2 1 5\n"),
+        ):
+            with self.subTest(model=model, text=text):
+                path.write_text(text)
+                self.assertEqual(self.run_tool([model, path]), (1, ""))
 
     def test_wrong_words(self):
         self.assertEqual(self.run_tool([])[0], 1)
