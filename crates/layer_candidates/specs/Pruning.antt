@@ -51,7 +51,7 @@ struck dp k t region key = is_struck_by key.value (dp.rough k (held_row region k
 abbrev pub unstruck_keys : Dp → ℕ → Option ℤ → RegionView → List Way → List Key
 unstruck_keys dp k t region ways = filter (λ key. not (struck dp k t region key)) (keys_of ways)
 
--- the leaders after a key that stays: it becomes one while there are fewer than the greatest number
+-- the leaders after a key that stays: it becomes one while there are fewer than `MOST_LEADERS`
 abbrev pub with_leader : List Key → Key → List Key
 with_leader leaders key = cond (nat_le MOST_LEADERS (length leaders)) leaders (leaders ++ key ∷ [])
 

@@ -46,7 +46,7 @@ leader_of row leader = record { place = leader.place; row = row leader.row; valu
 abbrev pub leaders_of : (ℕ → List ℤ) → List LeaderAt → List Leader
 leaders_of row leaders = map (leader_of row) leaders
 
--- the leaders after the node stays at the place: an exact one becomes a leader while there are fewer than the greatest number
+-- the leaders after the node stays at the place: an exact one becomes a leader while there are fewer than `MOST_LEADERS`
 abbrev pub led_at : List LeaderAt → ℕ → Node → List LeaderAt
 led_at leaders place node =
     cond (node.exact && not (nat_le MOST_LEADERS (length leaders))) (leaders ++ record { place = place; row = node.row; value = node.value; rank = node.rank } ∷ []) leaders

@@ -18,7 +18,7 @@ abbrev pub dominated : Dp → ℕ → List Reached → Reached → Bool
 dominated dp k [] r = false
 dominated dp k (a ∷ leaders) r = dominates dp k a r || dominated dp k leaders r
 
--- the leaders after the prefix: it is one of them if none of them dominates it and there are fewer than the greatest number
+-- the leaders after the prefix: it is one of them if none of them dominates it and there are fewer than `MOST_LEADERS`
 abbrev pub leaders_after : Dp → ℕ → List Reached → Reached → List Reached
 leaders_after dp k leaders r = cond (dominated dp k leaders r || nat_le MOST_LEADERS (length leaders)) leaders (leaders ++ r ∷ [])
 

@@ -32,7 +32,7 @@ at_leader dp k (a ∷ leaders) node =
 abbrev pub is_struck : Dp → ℕ → Option ℤ → DdNode → Bool
 is_struck dp k t node = is_struck_by node.value (dp.rough k node.row) t
 
--- the leaders after a node that stays at the place: an exact one becomes a leader while there are fewer than the greatest number
+-- the leaders after a node that stays at the place: an exact one becomes a leader while there are fewer than `MOST_LEADERS`
 abbrev pub leaders_past : List Leader → ℕ → DdNode → List Leader
 leaders_past leaders place node =
     cond (node.exact && not (nat_le MOST_LEADERS (length leaders))) (leaders ++ record { place = place; row = node.row; value = node.value } ∷ []) leaders
