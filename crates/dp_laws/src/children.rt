@@ -60,7 +60,7 @@ pub fn children_have_places()
     ensures { (dp : Dp) → ChildrenArePlaced dp }
 {}
 
-/// The bounds of a diagram's children are at most 2^62 in size. Where the layers of the width stay within the cost formula, there are at
+/// The bounds of a diagram's children are at most 2^62 in size. For a width that `MOST_WIDTH` and `MOST_COST` allow there are at
 /// most 2^24 children of either kind, and a record of those of the last exact layer has at most 2^32 - 1 bytes.
 pub fn children_fit()
     ensures { (dp : Dp) (p : List ℕ) (w : ℕ) (t : Option ℤ) (d : DdLayers) → IsLawful dp → length p < dp.vars → IsDiagram dp p w t d → ChildrenFit dp w d }

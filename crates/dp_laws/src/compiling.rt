@@ -47,7 +47,7 @@ pub fn layers_fit()
     ensures { (dp : Dp) → LayersFit dp }
 {}
 
-/// The greatest width whose layers stay within the cost formula is at least 1.
+/// The greatest width that `MOST_WIDTH` and `MOST_COST` allow is at least 1.
 pub fn widths_fit()
     ensures { (dp : Dp) → IsLawful dp → WidthsFit dp }
 {}

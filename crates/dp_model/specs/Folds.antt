@@ -10,7 +10,7 @@ spread n = n * 0x9e3779b97f4a7c15 % 2 ^ 64
 abbrev pub folded : ℕ → ℤ → ℕ
 folded so_far cell = (rotate_left w64 so_far 27 + spread (cast_unsigned w64 cell)) % 2 ^ 64
 
--- the fold of a row, begun with a number. At the end the upper half, which all cells reach, becomes the lower one
+-- the fold of a row, seeded with a number. At the end the upper half, which all cells reach, becomes the lower one
 unfoldable pub fold_of : ℕ → List ℤ → ℕ
 fold_of begun [] = rotate_left w64 (spread begun) 32
 fold_of begun (cell ∷ rest) = fold_of (folded begun cell) rest

@@ -34,7 +34,7 @@ abbrev pub covers_at : Option ℤ → ℤ → ℤ → Bool
 covers_at None above number = false
 covers_at (Some gap) above number = int_le (number +ℤ gap) above
 
--- whether the value and the rough bound are at most the threshold; no rough bound is at most each
+-- whether a state is struck: its value plus its rough bound is at most the threshold, or it has no rough bound
 abbrev pub is_struck_by : ℤ → Option ℤ → Option ℤ → Bool
 is_struck_by value None threshold = true
 is_struck_by value (Some rough) None = false

@@ -38,7 +38,7 @@ pub record SizesHold (dp : Dp) : Type 0 where
   pub gap : (k : ℕ) (a s : List ℤ) (g : ℤ) → IsStateOf dp k a → IsStateOf dp k s → dp.gap k a s ≡ Some g → (pos 0 ≤ℤ g) × IsSmall g
   pub rough : (k : ℕ) (s : List ℤ) (r : ℤ) → IsStateOf dp k s → dp.rough k s ≡ Some r → IsSmall r
 
--- the six laws
+-- the six laws: the first in `states`, the second to fourth in `gaps`, the fifth in `rough`, the sixth in `sizes`
 pub record IsLawful (dp : Dp) : Type 0 where
   pub states : StepsAreStates dp
   pub gaps : GapsAreSound dp

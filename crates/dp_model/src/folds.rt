@@ -4,10 +4,10 @@ ghost use Rattle.dp_model.specs.Folds.{fold_of, folded, spread};
 // 2^64 divided by the golden ratio, made odd.
 const FACTOR: u64 = 0x9e37_79b9_7f4a_7c15;
 
-/// The fold of a row: a hash of 64 bits that begins with a number, such as the row's layer. Equal rows that begin with the
-/// same number have equal folds. Every cell reaches the low bits, so these serve as a place in a table.
+/// The fold of a row: a hash of 64 bits that is seeded with a number, such as the row's layer. Equal rows with equal seeds have
+/// equal folds. Every cell reaches the low bits, so the low bits serve as a place in a table.
 ///
-/// A step adds a product with the cell to the rotated fold, so that the products do not wait for one another.
+/// Each step rotates the fold and adds a product that depends on the cell alone, so the products can be computed in parallel.
 pub fn fold(begun: u64, row: &[i64]) -> u64
     ensures { result ≡ fold_of begun row.now }
 {

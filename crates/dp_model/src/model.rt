@@ -18,8 +18,15 @@ pub struct Extended {
 /// layer `k` is a number below `choices(k)`. The value of a prefix is the root value plus its gains. No call takes memory.
 ///
 /// A value of the type is an instance of the problem. `numbers` describes the instance, and `meaning` gives the dynamic
-/// program that these numbers spell. Each call answers as this program does, and the program meets the laws: `vars`, `words`
-/// and `choices` are at most 1,024; cells, gains, gaps, rough bounds and the root value are at most 2^50 in size.
+/// program that these numbers spell. Each call answers as this program does, and the program meets six laws:
+///
+/// 1. The root is a state of layer 0, and steps and merges give states of their layer.
+/// 2. A gap is sound.
+/// 3. The gap from a state to itself is 0.
+/// 4. A merged state covers what the two states cover.
+/// 5. No continuation gains more than the rough bound; at the last layer it is 0.
+/// 6. `vars`, `words` and `choices` are at most 1,024; cells, gains, gaps, rough bounds and the root value are at most 2^50 in
+///    size.
 ///
 /// `covers_within`, `extend`, `next_hash`, `rough_by_rank`, `first_live` and `next_choice` are there for speed. Each has a body that uses
 /// the other calls. A problem replaces this body if a shorter way is known.

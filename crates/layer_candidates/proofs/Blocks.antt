@@ -2,8 +2,8 @@
 use Rattle.std.proofs.Common.{◌≡◌, ℕ, ◌+◌, ◌-◌, ◌*◌, ◌/◌, ◌<◌, ◌≤◌, ℤ, List, length, drop, slice_get, Some, min, sym, ap, ap₂, subst, ◌∙◌, arith}
 use Rattle.std.proofs.Math.Nat.{le-div_iff_mul-le, min-eq_left}
 use Rattle.layer_candidates.specs.HeldRows.{held_row}
-use Rattle.layer_candidates.specs.Rows.{row_at}
 use Rattle.layer_candidates.proofs.HeldRows.{held-is}
+use Rattle.row_region.specs.Layout.{row_at}
 use Rattle.row_region.specs.Region.{RegionView, IsLive}
 
 -- no row that fits stands after the last one

@@ -11,8 +11,10 @@ use Rattle.layer_candidates.specs.declared.way.Way.{Way}
 use Rattle.layer_candidates.specs.HeldRows.{held_row}
 use Rattle.layer_candidates.specs.Rows.{live_at, HasZeros}
 use Rattle.layer_candidates.specs.Table.{IsTable}
-use Rattle.layer_candidates.specs.Ways.{table, way_at, rows_of, way_row, reached_by, reached_at, all_reached, bettered, IsWay, AreDistinctRows, AreHashed, AreWays, AreJoined}
+use Rattle.layer_candidates.specs.Ways.{way_at, rows_of, way_row, reached_by, reached_at, all_reached, bettered, IsWay, AreDistinctRows, AreHashed, AreWays, AreJoined}
+use Rattle.row_region.specs.Layout.{table}
 use Rattle.row_region.specs.Region.{RegionView}
+use Rattle.row_region.proofs.Rows.{length-table, table_same, table_set}
 
 -- rows that begin with this many zeros are the same where their other cells are
 pub zeros-same : (count : ℕ) (a b : List ℤ) → HasZeros count a → HasZeros count b → drop count a ≡ drop count b → a ≡ b
@@ -30,31 +32,6 @@ other_rows a b n = go (row_same a b) refl
 
 pub last_or : (p n : ℕ) → p < suc n → (p ≡ n) ⊎ (p < n)
 last_or p n h = grind arith
-
-module _ {X : Type 0} where
-  pub length-table : (f : ℕ → X) (n : ℕ) → length (table f n) ≡ n
-  length-table f zero = refl
-  length-table f (suc n) = length_push (table f n) (f n) ∙ omega (arith, length-table f n)
-
-  pub table_same : (f g : ℕ → X) (n : ℕ) → ((i : ℕ) → i < n → g i ≡ f i) → table g n ≡ table f n
-  table_same f g zero same = refl
-  table_same f g (suc n) same =
-      let e = table_same f g n (λ i h. same i (omega arith)) in
-      ap (λ (l : List X). l ++ g n ∷ []) e ∙ ap (λ (x : X). table f n ++ x ∷ []) (same n (omega arith))
-
-  pub table_set : (f g : ℕ → X) (n p : ℕ) → p < n → ((i : ℕ) → i < n → i ≢ p → g i ≡ f i) → table g n ≡ set (table f n) p (g p)
-  table_set f g zero p within same = absurd (omega arith)
-  table_set f g (suc n) p within same = go (last_or p n within) (λ h. table_set f g n p h (λ i l k. same i (omega arith) k))
-    where
-      go : (p ≡ n) ⊎ (p < n) → (p < n → table g n ≡ set (table f n) p (g p)) → table g (suc n) ≡ set (table f (suc n)) p (g p)
-      go (inl e) again =
-          let front = table_same f g n (λ i h. same i (omega arith) (λ k. omega arith)) in
-          ap (λ (l : List X). l ++ g n ∷ []) front ∙ sym (rw e (set_at (table f n) (f n) [] (g n) n (length-table f n)))
-      go (inr h) again =
-          let front = again h in
-          let last : g n ≡ f n = same n (omega arith) (λ k. omega arith) in
-          ap (λ (l : List X). l ++ g n ∷ []) front ∙ ap (λ (x : X). set (table f n) p (g p) ++ x ∷ []) last
-          ∙ sym (set-append_left (table f n) (f n ∷ []) p (g p) (omega (arith, length-table f n)))
 
 -- where none has the row, the new one goes after
 joined_past : (f : ℕ → Reached) (new : Reached) (n : ℕ) (ys : List Reached) → ((k : ℕ) → k < n → row_same (f k).row new.row ≡ false) → joined (table f n ++ ys) new ≡ table f n ++ joined ys new
@@ -110,15 +87,6 @@ module _ (row row2 : ℕ → List ℤ) (ways : List Way) (same : (i : ℕ) → i
   pub reached-same : (paths : ℕ → List ℕ) → all_reached paths row2 ways ≡ all_reached paths row ways
   reached-same paths = table_same (reached_at paths row ways) (reached_at paths row2 ways) (length ways) (λ i less. ap (λ r. reached_by paths r (way_at ways i)) (same i less))
 
-  pub table-same : (live : ℕ) (hashes heads next : List ℕ) → IsTable row live (length ways) hashes heads next → IsTable row2 live (length ways) hashes heads next
-  table-same live hashes heads next t = record {
-    hashes_size = t.hashes_size;
-    next_size = t.next_size;
-    slots = t.slots;
-    heads_are = t.heads_are;
-    next_are = t.next_are;
-  }
-
   pub hashed-same : (dp : Dp) (k : ℕ) (hashes : List ℕ) → AreHashed dp k row (length ways) hashes → AreHashed dp k row2 (length ways) hashes
   hashed-same dp k hashes hashed i less = hashed i less ∙ ap (dp.hash k) (sym (same i less))
 
@@ -129,7 +97,7 @@ module _ (row row2 : ℕ → List ℤ) (ways : List Way) (same : (i : ℕ) → i
   good-same dp k good i less = subst (λ r. IsWay dp k r (way_at ways i)) (sym (same i less)) (good i less)
 
   pub joined-same : (dp : Dp) (k live : ℕ) (hashes heads next : List ℕ) → AreJoined dp k row live ways hashes heads next → AreJoined dp k row2 live ways hashes heads next
-  joined-same dp k live hashes heads next j = record { table = table-same live hashes heads next j.table; hashed = hashed-same dp k hashes j.hashed; apart = apart-same j.apart; good = good-same dp k j.good }
+  joined-same dp k live hashes heads next j = record { table = j.table; hashed = hashed-same dp k hashes j.hashed; apart = apart-same j.apart; good = good-same dp k j.good }
 
 -- A way that is new.
 
@@ -269,13 +237,13 @@ module _ (region : RegionView) (ways : List Way) (way : Way) where
   -- a way whose state is new goes after the others
   pub pushed-joined : (dp : Dp) (k live : ℕ) (hashes heads next hashes2 heads2 next2 : List ℕ) → length ways < length hashes → hashes2 ≡ set hashes (length ways) way.hash → ((k : ℕ) → k < length ways → live_at old_row live k ≢ drop live (held_row region way.row))
       → AreJoined dp k old_row live ways hashes heads next → IsWay dp k (held_row region way.row) way
-      → (IsTable new_row live (length ways) hashes heads next → IsTable new_row live (length ways + 1) hashes2 heads2 next2)
+      → (IsTable (length ways) hashes heads next → IsTable (length ways + 1) hashes2 heads2 next2)
       → AreJoined dp k new_row live (ways ++ way ∷ []) hashes2 heads2 next2
   pushed-joined dp k live hashes heads next hashes2 heads2 next2 room is none j one put =
       let longer : length (ways ++ way ∷ []) ≡ length ways + 1 = length_push ways way in
       let was = joined-same old_row new_row ways pushed-before dp k live hashes heads next j in
       record {
-        table = subst (λ (n : ℕ). IsTable new_row live n hashes2 heads2 next2) (sym longer) (put was.table);
+        table = subst (λ (n : ℕ). IsTable n hashes2 heads2 next2) (sym longer) (put was.table);
         hashed = subst (λ (n : ℕ). AreHashed dp k new_row n hashes2) (sym longer) (pushed-hashed dp k way.hash hashes hashes2 room is one.hash was.hashed);
         apart = subst (AreDistinctRows new_row) (sym (longer ∙ add-one (length ways))) (pushed_apart new_row ways way was.apart (pushed-none live none));
         good = pushed_ways new_row ways way dp k was.good (subst (λ r. IsWay dp k r way) (sym pushed-here) one);
@@ -303,7 +271,7 @@ module _ (region : RegionView) (ways : List Way) (way : Way) where
     bettered-joined dp k live hashes heads next j one =
         let count = length-bettered old_row ways way (held_row region way.row) place in
         joined-same old_row better_row (bettered ways place way) stays dp k live hashes heads next (record {
-          table = subst (λ (n : ℕ). IsTable old_row live n hashes heads next) (sym count) j.table;
+          table = subst (λ (n : ℕ). IsTable n hashes heads next) (sym count) j.table;
           hashed = subst (λ (n : ℕ). AreHashed dp k old_row n hashes) (sym count) j.hashed;
           apart = subst (AreDistinctRows old_row) (sym count) j.apart;
           good = bettered_ways old_row ways way (held_row region way.row) dp k place less same j.good one;

@@ -26,7 +26,8 @@ use Rattle.layer_candidates.specs.Members.{member_rows, member_as, members_as, I
 use Rattle.layer_candidates.specs.Pruning.{keyed, all_keyed, unstruck_keys, IsKeyIn, IsOfWay, HasPruned}
 use Rattle.layer_candidates.specs.Rows.{HasZeros}
 use Rattle.layer_candidates.specs.Steps.{path_at, step_of, step_at, entered, AreBackward, IsReachedWithin}
-use Rattle.layer_candidates.specs.Ways.{table, way_at, rows_of, way_row, reached_at, all_reached, IsNearly, AreWays}
+use Rattle.row_region.specs.Layout.{table}
+use Rattle.layer_candidates.specs.Ways.{way_at, rows_of, way_row, reached_at, all_reached, IsNearly, AreWays}
 use Rattle.layer_candidates.proofs.Descended.{descended, entered-rows, entered-same}
 use Rattle.layer_candidates.proofs.HeldRows.{held-same, way-each, exchange-then, left-moved}
 use Rattle.layer_candidates.proofs.Joined.{last_or}

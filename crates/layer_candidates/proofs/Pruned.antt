@@ -11,6 +11,7 @@ use Rattle.dp_model.specs.Reached.{Reached}
 use Rattle.dp_model.proofs.Members.{Each-append}
 use Rattle.dp_laws.proofs.Lists.{each-take}
 use Rattle.dp_laws.specs.Restricted.Leaders.{dominated, undominated}
+use Rattle.dp_model.specs.declared.limits.TheConstants.{MOST_LEADERS}
 use Rattle.layer_candidates.specs.declared.key.Key.{Key}
 use Rattle.layer_candidates.specs.declared.way.Way.{Way}
 use Rattle.layer_candidates.specs.HeldRows.{AreSame, HasLeft, held_row}
@@ -90,29 +91,29 @@ module _ (dp : Dp) (k : ℕ) (region : RegionView) where
   led-end leaders key i less = ap (λ l. led_by dp k region l key) (drop_all i leaders less)
 
   leaders-keyed : (paths : ℕ → List ℕ) (ways : List Way) (leaders : List Key) (key : Key)
-      → all_keyed paths region ways (with_leader leaders key) ≡ cond (nat_le 16 (length (all_keyed paths region ways leaders))) (all_keyed paths region ways leaders) (all_keyed paths region ways leaders ++ keyed paths region ways key ∷ [])
+      → all_keyed paths region ways (with_leader leaders key) ≡ cond (nat_le MOST_LEADERS (length (all_keyed paths region ways leaders))) (all_keyed paths region ways leaders) (all_keyed paths region ways leaders ++ keyed paths region ways key ∷ [])
   leaders-keyed paths ways leaders key =
-      pushed (nat_le 16 (length leaders))
-      ∙ ap (λ n. cond (nat_le 16 n) (all_keyed paths region ways leaders) (all_keyed paths region ways leaders ++ keyed paths region ways key ∷ [])) (sym (length-map leaders (keyed paths region ways)))
+      pushed (nat_le MOST_LEADERS (length leaders))
+      ∙ ap (λ n. cond (nat_le MOST_LEADERS n) (all_keyed paths region ways leaders) (all_keyed paths region ways leaders ++ keyed paths region ways key ∷ [])) (sym (length-map leaders (keyed paths region ways)))
     where
       pushed : (b : Bool) → all_keyed paths region ways (cond b leaders (leaders ++ key ∷ [])) ≡ cond b (all_keyed paths region ways leaders) (all_keyed paths region ways leaders ++ keyed paths region ways key ∷ [])
       pushed true = refl
       pushed false = map-append (keyed paths region ways) leaders (key ∷ [])
 
--- the first 16 of the keys that stay lead
-leaders-first : (kept : List Key) (key : Key) → with_leader (take 16 kept) key ≡ take 16 (kept ++ key ∷ [])
-leaders-first kept key = go (nat_le 16 (length kept)) refl
+-- the first ones of the keys that stay lead
+leaders-first : (kept : List Key) (key : Key) → with_leader (take MOST_LEADERS kept) key ≡ take MOST_LEADERS (kept ++ key ∷ [])
+leaders-first kept key = go (nat_le MOST_LEADERS (length kept)) refl
   where
-    go : (b : Bool) → nat_le 16 (length kept) ≡ b → with_leader (take 16 kept) key ≡ take 16 (kept ++ key ∷ [])
+    go : (b : Bool) → nat_le MOST_LEADERS (length kept) ≡ b → with_leader (take MOST_LEADERS kept) key ≡ take MOST_LEADERS (kept ++ key ∷ [])
     go true e =
-        let many : 16 ≤ length kept = grind (arith, nat_tests) in
-        let full : length (take 16 kept) ≡ 16 = length-take-le 16 kept many in
-        ap (λ (n : ℕ). cond (nat_le 16 n) (take 16 kept) (take 16 kept ++ key ∷ [])) full ∙ sym (take-append-le 16 kept (key ∷ []) many)
+        let many : MOST_LEADERS ≤ length kept = grind (arith, nat_tests) in
+        let full : length (take MOST_LEADERS kept) ≡ MOST_LEADERS = length-take-le MOST_LEADERS kept many in
+        ap (λ (n : ℕ). cond (nat_le MOST_LEADERS n) (take MOST_LEADERS kept) (take MOST_LEADERS kept ++ key ∷ [])) full ∙ sym (take-append-le MOST_LEADERS kept (key ∷ []) many)
     go false e =
-        let few : length kept < 16 = grind (arith, nat_tests) in
+        let few : length kept < MOST_LEADERS = grind (arith, nat_tests) in
         let longer = length_push kept key in
-        ap (λ (l : List Key). cond (nat_le 16 (length l)) l (l ++ key ∷ [])) (take_all 16 kept (omega arith))
-        ∙ (ap (λ b. cond b kept (kept ++ key ∷ [])) e ∙ sym (take_all 16 (kept ++ key ∷ []) (omega arith)))
+        ap (λ (l : List Key). cond (nat_le MOST_LEADERS (length l)) l (l ++ key ∷ [])) (take_all MOST_LEADERS kept (omega arith))
+        ∙ (ap (λ b. cond b kept (kept ++ key ∷ [])) e ∙ sym (take_all MOST_LEADERS (kept ++ key ∷ []) (omega arith)))
 
 -- One key is looked at: its row, and those of the leaders, are as they were.
 
@@ -137,8 +138,8 @@ looked dp k most old region keys leaders kept i all less h left =
     let now = subst (λ ps. HasLeft old (key_rows keys) region (key_rows kept ++ ps)) next left in
     let one = each-here (IsKeyIn dp k old) keys i none all less in
     let stays = (each-right Same (key_rows kept) (key.row ∷ key_rows (drop (i + 1) keys)) now.same).0 in
-    let same = subst (λ l. AreSame old region (key_rows l)) (sym h.leading) (first-same old region 16 kept (each-left Same (key_rows kept) (key_rows (drop i keys)) left.same)) in
-    let leading = subst (Each (IsKeyIn dp k old)) (sym h.leading) (each-take (IsKeyIn dp k old) 16 kept h.within) in
+    let same = subst (λ l. AreSame old region (key_rows l)) (sym h.leading) (first-same old region MOST_LEADERS kept (each-left Same (key_rows kept) (key_rows (drop i keys)) left.same)) in
+    let leading = subst (Each (IsKeyIn dp k old)) (sym h.leading) (each-take (IsKeyIn dp k old) MOST_LEADERS kept h.within) in
     record {
       leading = keys-same dp k old region leaders same leading;
       one = key-same dp k old region key stays one;
@@ -150,11 +151,11 @@ looked dp k most old region keys leaders kept i all less h left =
 
 -- a member that is dominated goes
 goes : (dp : Dp) (k : ℕ) (ls : List Reached) (r : Reached) (rs : List Reached) → dominated dp k ls r ≡ true → undominated dp k ls (r ∷ rs) ≡ undominated dp k ls rs
-goes dp k ls r rs out = ap (λ c. cond c [] (r ∷ []) ++ undominated dp k (cond (c || nat_le 16 (length ls)) ls (ls ++ r ∷ [])) rs) out
+goes dp k ls r rs out = ap (λ c. cond c [] (r ∷ []) ++ undominated dp k (cond (c || nat_le MOST_LEADERS (length ls)) ls (ls ++ r ∷ [])) rs) out
 
 -- and another one stays
-stays : (dp : Dp) (k : ℕ) (ls : List Reached) (r : Reached) (rs : List Reached) → dominated dp k ls r ≡ false → undominated dp k ls (r ∷ rs) ≡ r ∷ undominated dp k (cond (nat_le 16 (length ls)) ls (ls ++ r ∷ [])) rs
-stays dp k ls r rs out = ap (λ c. cond c [] (r ∷ []) ++ undominated dp k (cond (c || nat_le 16 (length ls)) ls (ls ++ r ∷ [])) rs) out
+stays : (dp : Dp) (k : ℕ) (ls : List Reached) (r : Reached) (rs : List Reached) → dominated dp k ls r ≡ false → undominated dp k ls (r ∷ rs) ≡ r ∷ undominated dp k (cond (nat_le MOST_LEADERS (length ls)) ls (ls ++ r ∷ [])) rs
+stays dp k ls r rs out = ap (λ c. cond c [] (r ∷ []) ++ undominated dp k (cond (c || nat_le MOST_LEADERS (length ls)) ls (ls ++ r ∷ [])) rs) out
 
 module _ (dp : Dp) (k : ℕ) (most : ℕ) (region : RegionView) (keys leaders kept : List Key) (i : ℕ) (d : Key)
     (h : ArePruned dp k most region keys leaders kept i) (less : i < length keys) where

@@ -53,7 +53,7 @@ true_slot a b h = grind (arith, nat_tests)
 false_slot : (a b : ℕ) → a ≢ b → nat_eq a b ≡ false
 false_slot a b h = grind (arith, nat_tests)
 
-pub search_starts : (row : ℕ → List ℤ) (live count : ℕ) (new : List ℤ) (hash : ℕ) (hashes heads next : List ℕ) → IsTable row live count hashes heads next → slot_of hash (length heads) < length heads
+pub search_starts : (row : ℕ → List ℤ) (live count : ℕ) (new : List ℤ) (hash : ℕ) (hashes heads next : List ℕ) → IsTable count hashes heads next → slot_of hash (length heads) < length heads
     → IsSearched row live count new hash hashes (length heads) (get_or heads (slot_of hash (length heads)) 0)
 search_starts row live count new hash hashes heads next t less =
     let slot = slot_of hash (length heads) in
@@ -65,7 +65,7 @@ search_starts row live count new hash hashes heads next t less =
     })
 
 -- the next one of the chain
-pub next_is : (row : ℕ → List ℤ) (live count : ℕ) (new : List ℤ) (hash : ℕ) (hashes heads next : List ℕ) (i : ℕ) → IsTable row live count hashes heads next → IsSearched row live count new hash hashes (length heads) i → 0 < i
+pub next_is : (row : ℕ → List ℤ) (live count : ℕ) (new : List ℤ) (hash : ℕ) (hashes heads next : List ℕ) (i : ℕ) → IsTable count hashes heads next → IsSearched row live count new hash hashes (length heads) i → 0 < i
     → get_or next (i - 1) 0 ≡ top (has_slot hashes (length heads) (slot_of hash (length heads))) (i - 1)
 next_is row live count new hash hashes heads next i t s positive =
     let w = s.within in
@@ -78,7 +78,7 @@ either a b = grind arith
 three : (k i : ℕ) → 0 < i → (k < i - 1) ⊎ ((k ≡ i - 1) ⊎ (i ≤ k))
 three k i h = grind arith
 
-pub search_steps : (row : ℕ → List ℤ) (live count : ℕ) (new : List ℤ) (hash : ℕ) (hashes heads next : List ℕ) (i : ℕ) → IsTable row live count hashes heads next → IsSearched row live count new hash hashes (length heads) i → 0 < i → live_at row live (i - 1) ≢ new
+pub search_steps : (row : ℕ → List ℤ) (live count : ℕ) (new : List ℤ) (hash : ℕ) (hashes heads next : List ℕ) (i : ℕ) → IsTable count hashes heads next → IsSearched row live count new hash hashes (length heads) i → 0 < i → live_at row live (i - 1) ≢ new
     → IsSearched row live count new hash hashes (length heads) (get_or next (i - 1) 0)
 search_steps row live count new hash hashes heads next i t s positive other =
     let p = has_slot hashes (length heads) (slot_of hash (length heads)) in
@@ -95,15 +95,15 @@ search_steps row live count new hash hashes heads next i t s positive other =
     go k a b passes (inr (inl same)) = subst (λ (j : ℕ). live_at row live j ≢ new) (sym same) other
     go k a b passes (inr (inr above)) = s.past k above b passes
 
-pub search_smaller : (row : ℕ → List ℤ) (live count : ℕ) (new : List ℤ) (hash : ℕ) (hashes heads next : List ℕ) (i : ℕ) → IsTable row live count hashes heads next → IsSearched row live count new hash hashes (length heads) i → 0 < i → get_or next (i - 1) 0 < i
+pub search_smaller : (row : ℕ → List ℤ) (live count : ℕ) (new : List ℤ) (hash : ℕ) (hashes heads next : List ℕ) (i : ℕ) → IsTable count hashes heads next → IsSearched row live count new hash hashes (length heads) i → 0 < i → get_or next (i - 1) 0 < i
 search_smaller row live count new hash hashes heads next i t s positive =
     let e = next_is row live count new hash hashes heads next i t s positive in
     let few = top_within (has_slot hashes (length heads) (slot_of hash (length heads))) (i - 1) in
     omega arith
 
-pub inserted : (row : ℕ → List ℤ) (live count hash : ℕ) (hashes heads next : List ℕ) → IsTable row live count hashes heads next → count < length hashes → count < length next → slot_of hash (length heads) < length heads
-    → IsTable row live (suc count) (set hashes count hash) (set heads (slot_of hash (length heads)) (suc count)) (set next count (get_or heads (slot_of hash (length heads)) 0))
-inserted row live count hash hashes heads next t in_hashes in_next less =
+pub inserted : (count hash : ℕ) (hashes heads next : List ℕ) → IsTable count hashes heads next → count < length hashes → count < length next → slot_of hash (length heads) < length heads
+    → IsTable (suc count) (set hashes count hash) (set heads (slot_of hash (length heads)) (suc count)) (set next count (get_or heads (slot_of hash (length heads)) 0))
+inserted count hash hashes heads next t in_hashes in_next less =
     let size = length heads in
     let at = slot_of hash size in
     let same : length (set heads at (suc count)) ≡ size = length-set heads at (suc count) in

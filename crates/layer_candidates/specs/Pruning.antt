@@ -4,6 +4,7 @@ use Rattle.dp_model.specs.Dp.{Dp}
 use Rattle.dp_model.specs.Gaps.{IsStateOf, covers_at, is_struck_by}
 use Rattle.dp_model.specs.Lists.{Each}
 use Rattle.dp_model.specs.Reached.{Reached}
+use Rattle.dp_model.specs.declared.limits.TheConstants.{MOST_LEADERS}
 use Rattle.dp_laws.specs.Restricted.Leaders.{undominated}
 use Rattle.layer_candidates.specs.declared.key.Key.{Key}
 use Rattle.layer_candidates.specs.declared.way.Way.{Way}
@@ -50,16 +51,16 @@ struck dp k t region key = is_struck_by key.value (dp.rough k (held_row region k
 abbrev pub unstruck_keys : Dp → ℕ → Option ℤ → RegionView → List Way → List Key
 unstruck_keys dp k t region ways = filter (λ key. not (struck dp k t region key)) (keys_of ways)
 
--- the leaders after a key that stays: there are at most 16
+-- the leaders after a key that stays: it becomes one while there are fewer than `MOST_LEADERS`
 abbrev pub with_leader : List Key → Key → List Key
-with_leader leaders key = cond (nat_le 16 (length leaders)) leaders (leaders ++ key ∷ [])
+with_leader leaders key = cond (nat_le MOST_LEADERS (length leaders)) leaders (leaders ++ key ∷ [])
 
--- the first i keys were looked at: some of them stay, no more than `most`, of which the first 16 lead
+-- the first i keys were looked at: some of them stay, no more than `most`, of which the first ones lead
 pub record ArePruned (dp : Dp) (k : ℕ) (most : ℕ) (region : RegionView) (keys leaders kept : List Key) (i : ℕ) : Type 0 where
   pub list : (paths : ℕ → List ℕ) (ways : List Way) → all_keyed paths region ways kept
       ++ undominated dp k (all_keyed paths region ways leaders) (all_keyed paths region ways (drop i keys))
       ≡ undominated dp k [] (all_keyed paths region ways keys)
-  pub leading : leaders ≡ take 16 kept
+  pub leading : leaders ≡ take MOST_LEADERS kept
   pub within : Each (IsKeyIn dp k region) kept
   pub own : (ways : List Way) → Each (IsOfWay dp k region ways) keys → Each (IsOfWay dp k region ways) kept
   pub few : length kept ≤ i

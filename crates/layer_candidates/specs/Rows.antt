@@ -1,9 +1,5 @@
 -- Rows of cells.
-use Rattle.std.specs.Prelude.{◌≡◌, ℕ, ◌*◌, ℤ, pos, List, replicate, take, drop}
-
--- the cells of a row of one length in a block
-abbrev pub row_at : List ℤ → ℕ → ℕ → List ℤ
-row_at cells words place = take words (drop (place * words) cells)
+use Rattle.std.specs.Prelude.{◌≡◌, ℕ, ℤ, pos, List, replicate, take, drop}
 
 -- the cells of a row from the first live one on
 abbrev pub live_at : (ℕ → List ℤ) → ℕ → ℕ → List ℤ

@@ -18,7 +18,7 @@ abbrev pub has_slot : List ℕ → ℕ → ℕ → ℕ → Bool
 has_slot hashes size slot k = nat_eq (slot_of (slice_index_or hashes k 0) size) slot
 
 -- the head of a slot names the last of the rows that have it, and each row names the last one before it with its slot
-pub record IsTable (row : ℕ → List ℤ) (live count : ℕ) (hashes heads next : List ℕ) : Type 0 where
+pub record IsTable (count : ℕ) (hashes heads next : List ℕ) : Type 0 where
   pub hashes_size : count ≤ length hashes
   pub next_size : count ≤ length next
   pub slots : IsPowerOfTwo (length heads)

@@ -1,5 +1,5 @@
 -- The ways to the states of a layer: of each state the best candidate.
-use Rattle.std.specs.Prelude.{◌≡◌, ◌≢◌, ℕ, zero, suc, ◌+◌, ◌^◌, ◌<◌, ℤ, pos, ◌≤ℤ◌, int_lt, cond, set, List, [], ◌∷◌, ◌++◌, length, map, slice_index_or}
+use Rattle.std.specs.Prelude.{◌≡◌, ◌≢◌, ℕ, ◌+◌, ◌^◌, ◌<◌, ℤ, pos, ◌≤ℤ◌, int_lt, cond, set, List, [], ◌∷◌, ◌++◌, length, map, slice_index_or}
 use lib.IntN.{neg_ℤ}
 use Rattle.dp_model.specs.Dp.{Dp}
 use Rattle.dp_model.specs.Gaps.{IsStateOf}
@@ -8,12 +8,8 @@ use Rattle.layer_candidates.specs.declared.way.Way.{Way}
 use Rattle.layer_candidates.specs.Rows.{HasZeros}
 use Rattle.layer_candidates.specs.HeldRows.{held_row}
 use Rattle.layer_candidates.specs.Table.{IsTable}
+use Rattle.row_region.specs.Layout.{table}
 use Rattle.row_region.specs.Region.{RegionView}
-
--- the values of the numbers below n, in order
-abbrev pub table : {X : Type 0} → (ℕ → X) → ℕ → List X
-table f zero = []
-table f (suc n) = table f n ++ f n ∷ []
 
 -- the way at the place
 abbrev pub way_at : List Way → ℕ → Way
@@ -83,7 +79,7 @@ AreHashed dp k row count hashes = (i : ℕ) → i < count → slice_index_or has
 
 -- the ways lead to different states, which the table has
 pub record AreJoined (dp : Dp) (k : ℕ) (row : ℕ → List ℤ) (live : ℕ) (ways : List Way) (hashes heads next : List ℕ) : Type 0 where
-  pub table : IsTable row live (length ways) hashes heads next
+  pub table : IsTable (length ways) hashes heads next
   pub hashed : AreHashed dp k row (length ways) hashes
   pub apart : AreDistinctRows row (length ways)
   pub good : AreWays dp k row ways

@@ -30,7 +30,7 @@ pub struct Beam {
     steps: Vec<Step>,
 }
 
-/// The value of a beam, or none where there is none, and whether the width took something from a layer.
+/// The value of a beam, or none where there is none, and whether the width took a member from a layer.
 #[derive(Clone, Copy, Debug)]
 pub struct Beamed {
     pub value: Option<i64>,
@@ -52,7 +52,8 @@ fn or_both(first: bool, second: bool, third: bool) -> bool
     first || (second && third)
 }
 
-/// How many members a layer keeps that is made from the one at depth `k`: of the last one only the first is wanted.
+/// The greatest number of members of the layer below depth `k`: 1 for the last layer, the choices for the first one below the
+/// prefix, and the width for the others.
 fn most_at<M: DpModel>(model: &M, k: usize, first: usize, width: usize) -> usize
     requires layer { k < (M.meaning (M.numbers model.now)).vars }
     ensures { result ≡ most_at (M.meaning (M.numbers model.now)) k first width }
@@ -110,9 +111,9 @@ impl Beam {
         self.candidates.next_layer(model, k, limits, region, &mut self.members, &mut self.steps)
     }
 
-    /// Makes all layers below the prefix, whose own one stands there. Answers whether the width took something from one.
-    /// It takes no memory.
-    pub fn compile<M: DpModel>(
+    /// Makes all layers below the prefix. `self` holds the layer with the prefix alone. Answers whether the width took a member from
+    /// a layer. It takes no memory.
+    fn compile<M: DpModel>(
         &mut self,
         region: &mut Region,
         model: &M,
@@ -137,7 +138,7 @@ impl Beam {
         reduced
     }
 
-    /// A layer with the prefix alone, whose state and value these are.
+    /// Becomes the layer with the prefix alone. `row` and `value` are its state and its value.
     fn begin<M: DpModel>(
         &mut self,
         region: &mut Region,
@@ -181,7 +182,7 @@ impl Beam {
     }
 
     /// The beam below a prefix with its state and value: its value, with its decisions in `out`, or none where there is none;
-    /// and whether the width took something from a layer. The region has free rows for the members of
+    /// and whether the width took a member from a layer. The region has free rows for the members of
     /// a layer and the candidates of the next one, and is as before afterwards. It takes no memory.
     pub fn beam<M: DpModel>(
         &mut self,

@@ -12,11 +12,11 @@ use crate::key::Key;
 use crate::limits::Limits;
 use crate::member::Member;
 use crate::ordering::sort;
-use crate::pruning::{MOST_LEADERS, prune};
+use crate::pruning::prune;
 use crate::step::Step;
 use crate::striking::list_unstruck;
 use crate::table::WayTable;
-use dp_model::{DpModel, OutOfMemory};
+use dp_model::{DpModel, MOST_LEADERS, OutOfMemory};
 use row_region::Region;
 use std::alloc::Global;
 

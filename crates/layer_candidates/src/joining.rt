@@ -21,7 +21,7 @@ impl WayTable {
     /// state has, and otherwise it is kept after the others. Answers the place of the state's way.
     #[inline(always)]
     pub fn take_in(&mut self, region: &Region, way: Way) -> usize
-        requires table { IsTable (way_row region.now self.old.ways.items) self.old.live (length self.old.ways.items) self.old.hashes.items self.old.heads.items self.old.next.items }
+        requires table { IsTable (length self.old.ways.items) self.old.hashes.items self.old.heads.items self.old.next.items }
         requires held { Each (IsLive region.now) (way.row ∷ rows_of self.old.ways.items) }
         requires live { self.old.live ≤ region.now.words }
         requires zeros { (i : ℕ) → i < length self.old.ways.items → HasZeros self.old.live (way_row region.now self.old.ways.items i) }

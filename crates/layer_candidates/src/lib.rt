@@ -9,7 +9,7 @@
 //! is given back in the call that lets it go, and a beam gives back all rows that it took. No call but `prepare` takes memory.
 //!
 //! ```
-//! // The way to the last layer with at most `width` members a layer, or that there is none.
+//! // `found.value` is the value of the beam, whose decisions are in `decisions`; it is `None` if there is no beam.
 //! let start = Start { prefix, row: &row, value };
 //! let limits = Limits { width, threshold: None };
 //! let found = beam.beam(&mut region, &model, start, limits, &mut decisions);
@@ -38,7 +38,6 @@ mod walking;
 mod way;
 
 pub use beam::{Beam, Beamed};
-pub use candidates::Candidates;
 pub use extending::{Taken, extend_by};
 pub use holding::{HasRow, give_rows, put_row, take_row};
 pub use key::Key;
@@ -46,7 +45,6 @@ pub use limits::Limits;
 pub use member::Member;
 pub use ordering::{put_in_order, sort};
 pub use parent::Parent;
-pub use pruning::MOST_LEADERS;
 pub use rows::row_of;
 pub use start::Start;
 pub use step::Step;

@@ -1,4 +1,4 @@
-//! Of the keys in order those are taken out that a leader dominates, and the first ones stay.
+//! Takes the keys out that a leader dominates, in order, and keeps the first ones of those that stay.
 
 ghost use Rattle.std.specs.Prelude.{◌≡◌, ◌≤◌, ◌-ℤ◌, length, vec_capacity};
 ghost use Rattle.dp_model.specs.Gaps.{covers_at};
@@ -11,11 +11,8 @@ ghost use Rattle.layer_candidates.specs.Pruning.{IsKeyIn, led_by, with_leader, H
 use crate::holding::give_rows;
 use crate::key::Key;
 use crate::rows::row_of;
-use dp_model::DpModel;
+use dp_model::{DpModel, MOST_LEADERS};
 use row_region::{Region, RowId};
-
-/// No layer has more leaders.
-pub const MOST_LEADERS: usize = 16;
 
 /// By how much the leader's value is above the key's.
 fn room(leader: Key, key: Key) -> i64
@@ -54,7 +51,7 @@ fn is_led<M: DpModel>(model: &M, k: usize, region: &Region, leaders: &[Key], key
     false
 }
 
-/// A key that stays becomes a leader while there are fewer than 16.
+/// A key that stays becomes a leader while there are fewer than `MOST_LEADERS`.
 fn lead(leaders: &mut Vec<Key>, key: Key)
     requires room { MOST_LEADERS ≤ vec_capacity leaders.old }
     ensures leaders { leaders.new.items ≡ with_leader leaders.old.items key }
@@ -65,8 +62,8 @@ fn lead(leaders: &mut Vec<Key>, key: Key)
     }
 }
 
-/// Takes the keys out that one of the first 16 that stay dominates. The first ones that stay are kept, as many as `most`, and the
-/// rows of all others are given back. Answers whether more would stay.
+/// Takes the keys out that one of the first `MOST_LEADERS` that stay dominates. The first ones that stay are kept, as many as
+/// `most`, and the rows of all others are given back. Answers whether more would stay.
 pub fn prune<M: DpModel>(
     model: &M,
     k: usize,

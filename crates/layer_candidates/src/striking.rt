@@ -1,4 +1,4 @@
-//! Of the ways only those are listed whose states are not struck.
+//! Lists the ways whose states are not struck.
 
 ghost use Rattle.std.specs.Prelude.{◌≡◌, ◌<◌, ◌≤◌, ◌^◌, IfSome, length, vec_capacity};
 ghost use Rattle.dp_model.specs.Gaps.{is_struck_by};
@@ -15,7 +15,7 @@ use crate::way::Way;
 use dp_model::DpModel;
 use row_region::{Region, RowId};
 
-/// Whether the value and the rough bound are at most the threshold; no rough bound is at most each.
+/// Whether a state is struck: its value plus its rough bound is at most the threshold, or it has no rough bound.
 pub fn is_struck_by(value: i64, rough: Option<i64>, threshold: Option<i64>) -> bool
     requires near { IsNearly value }
     requires small { IfSome rough (λ r. IsSmall r) }
@@ -30,7 +30,7 @@ pub fn is_struck_by(value: i64, rough: Option<i64>, threshold: Option<i64>) -> b
     }
 }
 
-/// Whether no completion of the key's state is known to be above the threshold.
+/// Whether the key is struck: its rough bound shows that no completion is above the threshold, or that there is no completion.
 fn is_struck<M: DpModel>(
     model: &M,
     k: usize,

@@ -1,7 +1,7 @@
 //! The ways to a layer, and the table that finds the way of a state. Rows are compared from the first live cell on.
 
 ghost use Rattle.std.specs.Int.{IsPowerOfTwo};
-ghost use Rattle.std.specs.Prelude.{◌≡◌, ℕ, ◌+◌, ◌^◌, ◌<◌, ◌≤◌, ℤ, List, ◌↔◌, length, vec_len, slice_index_or, slice_set, IfOk, IsTrue};
+ghost use Rattle.std.specs.Prelude.{◌≡◌, ◌+◌, ◌^◌, ◌<◌, ◌≤◌, ◌↔◌, length, vec_len, slice_index_or, slice_set, IfOk, IsTrue};
 ghost use Rattle.dp_model.specs.Lists.{Each};
 ghost use Rattle.layer_candidates.specs.Rows.{live_at};
 ghost use Rattle.layer_candidates.specs.Table.{slot_of, HaveHash, IsTable, IsRowFound};
@@ -102,7 +102,7 @@ impl WayTable {
 
     /// The place of the way whose row has these live cells, or the number of ways.
     pub(crate) fn find(&self, region: &Region, new: &[i64], hash: u64) -> usize
-        requires table { IsTable (way_row region.now self.now.ways.items) self.now.live (length self.now.ways.items) self.now.hashes.items self.now.heads.items self.now.next.items }
+        requires table { IsTable (length self.now.ways.items) self.now.hashes.items self.now.heads.items self.now.next.items }
         requires held { Each (IsLive region.now) (rows_of self.now.ways.items) }
         requires live { self.now.live ≤ region.now.words }
         requires hash { HaveHash (way_row region.now self.now.ways.items) self.now.live (length self.now.ways.items) new.now hash self.now.hashes.items }
@@ -125,8 +125,8 @@ impl WayTable {
         requires hashes { length self.old.ways.items < length self.old.hashes.items }
         requires next { length self.old.ways.items < length self.old.next.items }
         requires heads { IsPowerOfTwo (length self.old.heads.items) }
-        ensures table { (row : ℕ → List ℤ) (live : ℕ) → IsTable row live (length self.old.ways.items) self.old.hashes.items self.old.heads.items self.old.next.items
-            → IsTable row live (length self.old.ways.items + 1) self.new.hashes.items self.new.heads.items self.new.next.items }
+        ensures table { IsTable (length self.old.ways.items) self.old.hashes.items self.old.heads.items self.old.next.items
+            → IsTable (length self.old.ways.items + 1) self.new.hashes.items self.new.heads.items self.new.next.items }
         ensures hashes { self.new.hashes.items ≡ slice_set self.old.hashes.items (length self.old.ways.items) hash }
         ensures ways { self.new.ways ≡ self.old.ways }
         ensures live { self.new.live ≡ self.old.live }

@@ -4,6 +4,7 @@ use Rattle.std.proofs.lemmas.List.{map-append, take_more_set, drop_all}
 use Rattle.dp_model.specs.Dp.{Dp}
 use Rattle.dp_model.specs.Lists.{Each}
 use Rattle.dp_model.proofs.Members.{Has, Has-append-left, Has-append-right, Each-append, Each-then}
+use Rattle.dp_model.specs.declared.limits.TheConstants.{MOST_LEADERS}
 use Rattle.dp_laws.specs.Rules.Pruning.{Leader}
 use Rattle.layer_candidates.specs.HeldRows.{AreLive, HasExchanged, held_row}
 use Rattle.layer_candidates.proofs.HeldRows.{each-left, each-right, held-is, exchange-self, exchange-then}
@@ -126,7 +127,7 @@ module _ (base : RegionView) (old now : List Node) (leaders : List LeaderAt) (re
           exchanged = subst (HasExchanged base (rows_in old) region) all h.exchanged;
           held = subst (HaveRows region (held_row base)) all h.held;
           led = subst (λ l. AreAmong l (rows_led (led_at leaders stay node))) (sym first)
-              (elim (node.exact && not (nat_le 16 (length leaders))) as (λ b. AreAmong (front ++ node.row ∷ []) (rows_led (cond b (leaders ++ l ∷ []) leaders))) [ true ↦ both | false ↦ more ]);
+              (elim (node.exact && not (nat_le MOST_LEADERS (length leaders))) as (λ b. AreAmong (front ++ node.row ∷ []) (rows_led (cond b (leaders ++ l ∷ []) leaders))) [ true ↦ both | false ↦ more ]);
         }
 
   pub given-all : length old ≤ i → HasGiven base old region (take stay now)

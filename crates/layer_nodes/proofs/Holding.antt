@@ -9,7 +9,7 @@ use Rattle.row_region.specs.Region.{RegionView, IsRow, HasPut}
 use Rattle.row_region.proofs.Callers.{put_row}
 use Rattle.layer_nodes.specs.declared.node.Node.{Node}
 use Rattle.layer_nodes.specs.Holding.{AreHeld, places_of, HaveRows}
-use Rattle.layer_nodes.specs.Nodes.{NodeView, LayerView, without_arcs, suffix_set}
+use Rattle.layer_nodes.specs.Nodes.{NodeView, LayerView, without_arcs}
 use Rattle.layer_nodes.specs.Steps.{AreAmong, KeepsNodes}
 use Rattle.layer_nodes.specs.Stored.{node_view_by, rows_in, bare_of, HasArcsIn}
 use Rattle.layer_nodes.proofs.Stored.{among-each, among-map, among-take}
@@ -39,12 +39,6 @@ held-alike region (old ∷ olds) (new ∷ news) nodes places held =
 
 pub held-nodes : (region : RegionView) (old new : LayerView) → KeepsNodes old new → AreHeld region old.nodes → AreHeld region new.nodes
 held-nodes region old new kept held = held-alike region old.nodes new.nodes kept.nodes kept.places held
-
--- so have those of which one gets a suffix
-pub held-set : (region : RegionView) (nodes : List NodeView) (i : ℕ) (suffix : Option ℤ) → AreHeld region nodes → AreHeld region (suffix_set nodes i suffix)
-held-set region [] i suffix held = tt
-held-set region (node ∷ nodes) zero suffix held = (record { found = held.0.found; size = held.0.size }, held.1)
-held-set region (node ∷ nodes) (suc i) suffix held = (held.0, held-set region nodes i suffix held.1)
 
 -- ---- nodes in memory
 

@@ -2,6 +2,7 @@
 use Rattle.std.proofs.Common.{◌≡◌, ℕ, suc, ◌+◌, ◌-◌, nat_le, not, cond, ◌&&◌, List, [], ◌∷◌, ◌++◌, length, map, replicate, None, refl, sym, ◌∙◌, ap, append_assoc, append-nil, arith}
 use Rattle.std.proofs.lemmas.List.{length-map}
 use Rattle.dp_model.specs.Dp.{Dp}
+use Rattle.dp_model.specs.declared.limits.TheConstants.{MOST_LEADERS}
 use Rattle.dp_laws.specs.Diagrams.Nodes.{DdNode, path_below}
 use Rattle.dp_laws.specs.Rules.Pruning.{pruned_nodes, prune_redirects}
 use Rattle.dp_laws.specs.Rules.Reducing.{staying, keep_redirects}
@@ -17,7 +18,7 @@ module _ (dp : Dp) (k : ℕ) (paths : ℕ → List ℕ) where
   nodes-stay : (nodes : List NodeView) (place : ℕ) → AreInexact nodes → pruned_nodes (unstruck dp) k None [] place (map see nodes) ≡ map see nodes
   nodes-stay [] place h = refl
   nodes-stay (node ∷ nodes) place h =
-      ap (λ b. see node ∷ pruned_nodes (unstruck dp) k None (cond (b && not (nat_le 16 0)) (record { place = place; row = node.row; value = node.value } ∷ []) []) (place + 1) (map see nodes)) h.0
+      ap (λ b. see node ∷ pruned_nodes (unstruck dp) k None (cond (b && not (nat_le MOST_LEADERS 0)) (record { place = place; row = node.row; value = node.value } ∷ []) []) (place + 1) (map see nodes)) h.0
       ∙ ap (λ l. see node ∷ l) (nodes-stay nodes (place + 1) h.1)
 
   targets-stay : (nodes : List NodeView) (place : ℕ) → AreInexact nodes → staying place ++ prune_redirects (unstruck dp) k None [] place (map see nodes) ≡ staying (place + length nodes)
@@ -25,7 +26,7 @@ module _ (dp : Dp) (k : ℕ) (paths : ℕ → List ℕ) where
   targets-stay (node ∷ nodes) place h =
       let rest = prune_redirects (unstruck dp) k None [] (place + 1) (map see nodes) in
       let sum : place + 1 + length nodes ≡ place + suc (length nodes) = omega arith in
-      ap (λ b. staying place ++ here place ∷ prune_redirects (unstruck dp) k None (cond (b && not (nat_le 16 0)) (record { place = place; row = node.row; value = node.value } ∷ []) []) (place + 1) (map see nodes)) h.0
+      ap (λ b. staying place ++ here place ∷ prune_redirects (unstruck dp) k None (cond (b && not (nat_le MOST_LEADERS 0)) (record { place = place; row = node.row; value = node.value } ∷ []) []) (place + 1) (map see nodes)) h.0
       ∙ (sym (append_assoc (staying place) (here place ∷ []) rest)
       ∙ (ap (λ l. l ++ rest) (sym (staying-more place)) ∙ (targets-stay nodes (place + 1) h.1 ∙ ap staying sum)))
 

@@ -6,7 +6,8 @@ use Rattle.layer_candidates.specs.declared.key.Key.{Key}
 use Rattle.layer_candidates.specs.declared.way.Way.{Way}
 use Rattle.layer_candidates.specs.HeldRows.{held_row, AreSame, HasExchanged}
 use Rattle.layer_candidates.specs.KeyOrder.{key_at, keys_of, key_rows, IsKeyOf}
-use Rattle.layer_candidates.specs.Ways.{table, rows_of, way_row}
+use Rattle.layer_candidates.specs.Ways.{rows_of, way_row}
+use Rattle.row_region.specs.Layout.{table}
 use Rattle.layer_candidates.proofs.HeldRows.{held-same, exchange-moved}
 use Rattle.layer_candidates.proofs.Sorted.{map-table, key-row}
 use Rattle.row_region.specs.Region.{RegionView, IsLive}

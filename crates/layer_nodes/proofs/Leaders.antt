@@ -8,6 +8,7 @@ use Rattle.dp_model.specs.Laws.{IsLawful}
 use Rattle.dp_model.specs.Lists.{Each}
 use Rattle.dp_model.specs.Numbers.{IsSmall}
 use Rattle.dp_model.proofs.Members.{Each-append}
+use Rattle.dp_model.specs.declared.limits.TheConstants.{MOST_LEADERS}
 use Rattle.dp_laws.specs.Diagrams.Nodes.{DdNode}
 use Rattle.dp_laws.specs.Rules.Pruning.{Leader, redirect_within, first_redirect, at_leader, is_struck, leaders_past}
 use Rattle.dp_laws.specs.Rules.Reducing.{redirect_by}
@@ -81,20 +82,20 @@ module _ (dp : Dp) (k : ℕ) (row : ℕ → List ℤ) where
   leaders-led leaders place node shown row_is value exact =
       let l : LeaderAt = record { place = place; row = node.row; value = node.value; rank = node.rank } in
       let of = leaders_of row in
-      let few : (node.exact && not (nat_le 16 (length leaders))) ≡ (shown.exact && not (nat_le 16 (length (of leaders)))) =
-      ap₂ (λ b n. b && not (nat_le 16 n)) (sym exact) (sym (length-map leaders (leader_of row))) in
+      let few : (node.exact && not (nat_le MOST_LEADERS (length leaders))) ≡ (shown.exact && not (nat_le MOST_LEADERS (length (of leaders)))) =
+      ap₂ (λ b n. b && not (nat_le MOST_LEADERS n)) (sym exact) (sym (length-map leaders (leader_of row))) in
       let same : leader_of row l ≡ record { place = place; row = shown.row; value = shown.value } = ap₂ (λ r v. record { place = place; row = r; value = v }) (sym row_is) (sym value) in
       let one : (b : Bool) → of (cond b (leaders ++ l ∷ []) leaders) ≡ cond b (of leaders ++ record { place = place; row = shown.row; value = shown.value } ∷ []) (of leaders) = λ b.
       elim b as (λ b. of (cond b (leaders ++ l ∷ []) leaders) ≡ cond b (of leaders ++ record { place = place; row = shown.row; value = shown.value } ∷ []) (of leaders)) [
         | true ↦ map-append (leader_of row) leaders (l ∷ []) ∙ ap (λ x. of leaders ++ x ∷ []) same
         | false ↦ refl
       ] in
-      one (node.exact && not (nat_le 16 (length leaders))) ∙ ap (λ b. cond b (of leaders ++ record { place = place; row = shown.row; value = shown.value } ∷ []) (of leaders)) few
+      one (node.exact && not (nat_le MOST_LEADERS (length leaders))) ∙ ap (λ b. cond b (of leaders ++ record { place = place; row = shown.row; value = shown.value } ∷ []) (of leaders)) few
 
   pub each-led : (leaders : List LeaderAt) (place : ℕ) (node : Node) → Each (IsLeaderBy dp k row) leaders → IsNodeBy dp k row node → Each (IsLeaderBy dp k row) (led_at leaders place node)
   each-led leaders place node all one =
       let l : LeaderAt = record { place = place; row = node.row; value = node.value; rank = node.rank } in
-      elim (node.exact && not (nat_le 16 (length leaders))) as (λ b. Each (IsLeaderBy dp k row) (cond b (leaders ++ l ∷ []) leaders)) [
+      elim (node.exact && not (nat_le MOST_LEADERS (length leaders))) as (λ b. Each (IsLeaderBy dp k row) (cond b (leaders ++ l ∷ []) leaders)) [
         | true ↦ Each-append (IsLeaderBy dp k row) leaders (l ∷ []) all (one, tt)
         | false ↦ all
       ]

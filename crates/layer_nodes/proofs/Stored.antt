@@ -1,12 +1,8 @@
 -- Nodes of a layer in memory, one after another.
-use Rattle.std.proofs.Common.{◌≡◌, ℕ, zero, suc, ◌<◌, ◌≤◌, ℤ, List, [], ◌∷◌, length, map, take, drop, set, get_or, Option, refl, inl, inr, ap, subst, arith}
+use Rattle.std.proofs.Common.{◌≡◌, ℕ, zero, suc, ◌<◌, ◌≤◌, List, [], ◌∷◌, length, map, take, drop, set, get_or, refl, inl, inr, ap, subst, arith}
 use Rattle.dp_model.specs.Lists.{Each, OneOf}
 use Rattle.dp_laws.proofs.Lists.{each-take}
-use Rattle.dp_laws.specs.declared.arc.DdArc.{DdArc}
-use Rattle.layer_nodes.specs.declared.node.Node.{Node}
-use Rattle.layer_nodes.specs.Nodes.{suffix_set}
 use Rattle.layer_nodes.specs.Steps.{AreAmong}
-use Rattle.layer_nodes.specs.Stored.{node_view_by}
 
 -- ---- members of lists
 
@@ -59,11 +55,3 @@ among-map f old (x ∷ new) h = (found f old x h.0, among-map f old new h.1)
 
 pub among-take : {X : Type 0} (n : ℕ) (old new : List X) → AreAmong old new → AreAmong old (take n new)
 among-take n old new h = each-take (λ x. OneOf (λ other. other ≡ x) old) n new h
-
--- ---- a suffix
-
-pub suffix-set : (row : ℕ → List ℤ) (arcs : List DdArc) (xs : List Node) (i : ℕ) (x d : Node) (s : Option ℤ) → i < length xs → x ≡ record (get_or xs i d) { suffix = s }
-    → map (node_view_by row arcs) (set xs i x) ≡ suffix_set (map (node_view_by row arcs) xs) i s
-suffix-set row arcs [] i x d s less is = absurd (omega arith)
-suffix-set row arcs (y ∷ xs) zero x d s less is = ap (λ n. node_view_by row arcs n ∷ map (node_view_by row arcs) xs) is
-suffix-set row arcs (y ∷ xs) (suc i) x d s less is = ap (λ l. node_view_by row arcs y ∷ l) (suffix-set row arcs xs i x d s (omega arith) is)

@@ -13,7 +13,8 @@ use Rattle.layer_candidates.specs.declared.way.Way.{Way}
 use Rattle.layer_candidates.specs.Extending.{HasExtended, parent_as, all_allowed}
 use Rattle.layer_candidates.specs.Table.{IsPlaced}
 use Rattle.layer_candidates.specs.Ways.{reached_at, all_reached, AreDistinctRows}
-use Rattle.layer_candidates.proofs.Joined.{length-table, same_rows, other_rows}
+use Rattle.layer_candidates.proofs.Joined.{same_rows, other_rows}
+use Rattle.row_region.proofs.Rows.{length-table}
 use Rattle.layer_nodes.specs.Expanding.{Trial, trial, made_by, trials_by, arc_to, AreArcsOf, all_exact, mark_at, marked, AreTried, LeadsWithin}
 
 -- Arcs.

@@ -52,7 +52,7 @@ at_end node = record node { suffix = Some (pos 0) }
 abbrev pub ended_last : LayerView → LayerView
 ended_last layer = record layer { nodes = map at_end layer.nodes }
 
--- the suffixes of nodes in memory, and the arcs of one among those of its layer
+-- the suffixes of nodes in memory
 abbrev pub suffixes_in : List Node → List (Option ℤ)
 suffixes_in nodes = map (λ (node : Node). node.suffix) nodes
 

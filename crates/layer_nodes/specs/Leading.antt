@@ -2,6 +2,7 @@
 use Rattle.std.specs.Prelude.{◌≡◌, ℕ, nat_le, ℤ, not, cond, ◌&&◌, List, [], ◌∷◌, ◌++◌, length, map, None}
 use Rattle.dp_model.specs.Dp.{Dp}
 use Rattle.dp_model.specs.Gaps.{IsStateOf}
+use Rattle.dp_model.specs.declared.limits.TheConstants.{MOST_LEADERS}
 use Rattle.dp_laws.specs.Diagrams.Nodes.{DdNode}
 use Rattle.dp_laws.specs.Rules.Pruning.{Leader}
 use Rattle.layer_candidates.specs.HeldRows.{held_row}
@@ -45,10 +46,10 @@ leader_of row leader = record { place = leader.place; row = row leader.row; valu
 abbrev pub leaders_of : (ℕ → List ℤ) → List LeaderAt → List Leader
 leaders_of row leaders = map (leader_of row) leaders
 
--- the leaders after the node stays at the place: an exact one becomes a leader while there are fewer than 16
+-- the leaders after the node stays at the place: an exact one becomes a leader while there are fewer than `MOST_LEADERS`
 abbrev pub led_at : List LeaderAt → ℕ → Node → List LeaderAt
 led_at leaders place node =
-    cond (node.exact && not (nat_le 16 (length leaders))) (leaders ++ record { place = place; row = node.row; value = node.value; rank = node.rank } ∷ []) leaders
+    cond (node.exact && not (nat_le MOST_LEADERS (length leaders))) (leaders ++ record { place = place; row = node.row; value = node.value; rank = node.rank } ∷ []) leaders
 
 -- a node of which only the row, the value and whether it is exact are known
 abbrev pub bare : (ℕ → List ℤ) → Node → DdNode

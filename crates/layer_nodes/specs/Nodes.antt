@@ -1,5 +1,5 @@
 -- The nodes of a layer in memory, and the nodes of a diagram that they stand for.
-use Rattle.std.specs.Prelude.{ℕ, zero, suc, ◌+◌, ℤ, Bool, List, [], ◌∷◌, map, Option}
+use Rattle.std.specs.Prelude.{ℕ, ◌+◌, ℤ, Bool, List, [], ◌∷◌, map, Option}
 use Rattle.dp_model.specs.Dp.{Dp}
 use Rattle.dp_laws.specs.declared.arc.DdArc.{DdArc}
 use Rattle.dp_laws.specs.Diagrams.Nodes.{DdNode, path_below}
@@ -59,9 +59,3 @@ shown_below paths nodes = map (λ (node : NodeView). shown (path_below paths nod
 -- all of a node but its arcs and the place of its row
 abbrev pub without_arcs : NodeView → NodeView
 without_arcs node = record node { place = 0; arcs = [] }
-
--- the nodes with the suffix at the place
-abbrev pub suffix_set : List NodeView → ℕ → Option ℤ → List NodeView
-suffix_set [] i s = []
-suffix_set (node ∷ nodes) zero s = record node { suffix = s } ∷ nodes
-suffix_set (node ∷ nodes) (suc i) s = node ∷ suffix_set nodes i s

@@ -2,7 +2,7 @@ ghost use Rattle.std.specs.Prelude.{◌≡◌, ◌+◌, ◌<◌, ◌≤◌, ◌^
 ghost use Rattle.dp_model.specs.Lists.{Each};
 ghost use Rattle.layer_candidates.specs.HeldRows.{AreLive, HasExchanged};
 ghost use Rattle.layer_nodes.specs.Holding.{AreHeld, places_of, HasStarted};
-ghost use Rattle.layer_nodes.specs.Nodes.{NodeView, without_arcs, suffix_set};
+ghost use Rattle.layer_nodes.specs.Nodes.{NodeView, without_arcs};
 ghost use Rattle.layer_nodes.specs.Stored.{bare_of};
 ghost use Rattle.layer_nodes.specs.Steps.{KeepsRoom};
 
@@ -217,15 +217,6 @@ impl Layer {
         ensures { option_map (λ n. n.suffix) (slice_get self.now.nodes node) ≡ Some result }
     {
         self.nodes[node].suffix
-    }
-
-    /// Sets the suffix of a node.
-    pub fn set_suffix(&mut self, node: usize, suffix: Option<i64>)
-        requires { node < length self.old.nodes }
-        ensures nodes { self.new.nodes ≡ suffix_set self.old.nodes node suffix }
-        ensures rooms { KeepsRoom self.old self.new }
-    {
-        self.nodes[node].suffix = suffix;
     }
 
     /// How many arcs a node has.

@@ -13,13 +13,13 @@ ghost use Rattle.layer_nodes.specs.Leading.{IsIn, IsNodeIn, IsLeaderIn, leaders_
 
 use crate::node::Node;
 use crate::redirecting::{LeaderAt, Redirect};
-use dp_model::DpModel;
-use layer_candidates::{MOST_LEADERS, row_of};
+use dp_model::{DpModel, MOST_LEADERS};
+use layer_candidates::row_of;
 use row_region::Region;
 
-/// A node that stays at the place becomes a leader where it is exact and there are fewer than 16.
+/// A node that stays at the place becomes a leader where it is exact and there are fewer than `MOST_LEADERS`.
 pub(crate) fn lead(leaders: &mut Vec<LeaderAt>, place: u32, node: Node)
-    requires room { 16 ≤ vec_capacity leaders.old }
+    requires room { MOST_LEADERS ≤ vec_capacity leaders.old }
     ensures leaders { leaders.new.items ≡ led_at leaders.old.items place node }
     ensures capacity { vec_capacity leaders.new ≡ vec_capacity leaders.old }
 {

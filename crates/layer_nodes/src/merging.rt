@@ -25,8 +25,8 @@ use layer_candidates::{give_rows, put_row, row_of};
 use row_region::Region;
 use std::snapshot::Snapshot;
 
-/// No gap is greater.
-const GREATEST_GAP: i64 = 1_125_899_906_842_624;
+/// The greatest gap of a lawful problem.
+const GREATEST_GAP: i64 = 1 << 50;
 
 /// The node's value with the gap, or none where there is none.
 fn lifted(node: Node, gap: Option<i64>) -> Option<i64>

@@ -11,8 +11,7 @@ ghost use Rattle.layer_nodes.specs.Steps.{MayBeLengthened, KeepsNodes};
 
 use crate::layer::Layer;
 use dp_laws::DdArc;
-use dp_model::OutOfMemory;
-use layer_candidates::MOST_LEADERS;
+use dp_model::{MOST_LEADERS, OutOfMemory};
 use std::alloc::Global;
 use std::marker::Model;
 
@@ -53,13 +52,14 @@ pub struct Redirects {
 
 impl Model for Redirects {
     ghost use Rattle.std.specs.Prelude.{◌≤◌, vec_len, vec_capacity};
+    ghost use Rattle.dp_model.specs.declared.limits.TheConstants.{MOST_LEADERS};
     ghost use Rattle.layer_nodes.specs.Stored.{Room};
 
     ghost Value = { Room };
 
     ghost view = { λ r. record { most = vec_capacity r.all; words = vec_len r.merged } };
 
-    ghost invariant = { λ r. 16 ≤ vec_capacity r.leaders };
+    ghost invariant = { λ r. MOST_LEADERS ≤ vec_capacity r.leaders };
 }
 
 impl Redirects {

@@ -1,4 +1,4 @@
-//! Nodes that are struck, or that a leader dominates, are taken out of a layer.
+//! Takes the nodes out of a layer that are struck, or that a leader dominates.
 
 ghost use Rattle.std.specs.Prelude.{◌≡◌, ℕ, ◌≤◌, ◌<◌, ◌^◌, ◌∷◌, [], ◌++◌, List, IfSome, IsFalse, length, pos, set, slice_get, take, Some, None, vec_capacity};
 ghost use Rattle.dp_model.specs.Lists.{Each};
@@ -18,16 +18,16 @@ use crate::layer::Layer;
 use crate::leading::{at_leader, lead};
 use crate::node::Node;
 use crate::redirecting::{LeaderAt, Redirect, Redirects, redirect_layer};
-use dp_model::DpModel;
+use dp_model::{DpModel, MOST_LEADERS};
 use layer_candidates::{is_struck_by, row_of};
 use row_region::{Region, RowId};
 
 /// Which nodes of a layer are struck.
 #[derive(Clone, Copy, Debug)]
 pub enum Strikes {
-    /// Those that their rough bound lifts to at most the threshold, and those without one.
+    /// Those whose value plus rough bound is at most the threshold, and those without a rough bound.
     AtMost(Option<i64>),
-    /// None: the rough bounds are not asked.
+    /// No node. The rough bounds are not computed.
     Nothing,
 }
 
@@ -87,7 +87,7 @@ fn keep_at(
     requires within { place < length nodes.old }
     requires from { slice_get nodes.old from ≡ Some node }
     requires small { length nodes.old < 2 ^ 32 }
-    requires leaders_room { 16 ≤ vec_capacity leaders.old }
+    requires leaders_room { MOST_LEADERS ≤ vec_capacity leaders.old }
     requires redirects_room { length redirects.old.items < vec_capacity redirects.old }
     ensures nodes { nodes.new ≡ set nodes.old place node }
     ensures leaders { leaders.new.items ≡ led_at leaders.old.items place node }
@@ -117,7 +117,7 @@ fn prune<M: DpModel>(
     requires nodes { Each (IsNodeIn (M.meaning (M.numbers model.now)) k region.old) nodes.old }
     requires live { AreLive region.old (rows_in nodes.old) }
     requires small { length nodes.old < 2 ^ 32 }
-    requires leaders_room { 16 ≤ vec_capacity leaders.old }
+    requires leaders_room { MOST_LEADERS ≤ vec_capacity leaders.old }
     requires redirects_room { length nodes.old ≤ vec_capacity redirects.old }
     ensures pruned { HasPruned (M.meaning (M.numbers model.now)) k strikes (held_row region.old) nodes.old nodes.new redirects.new.items result }
     ensures given { HasGiven region.old nodes.old region.new (take result nodes.new) }
@@ -156,8 +156,8 @@ fn has_exact(layer: &Layer) -> bool
     false
 }
 
-/// Takes out the nodes of the next layer, at depth `k`, that are struck, or that one of the first 16 exact ones that stay
-/// dominates; the arcs of the nodes above follow, and the rows of those nodes are given back.
+/// Takes out the nodes of the next layer, at depth `k`, that are struck, or that one of the first `MOST_LEADERS` exact ones that
+/// stay dominates; the arcs of the nodes above follow, and the rows of those nodes are given back.
 fn take_out<M: DpModel>(
     model: &M,
     k: usize,
@@ -194,8 +194,9 @@ fn take_out<M: DpModel>(
     redirect_layer(above, redirects.all.as_slice());
 }
 
-/// Takes out the nodes of the next layer, at depth `k`, that are struck by their rough bound, or that one of the first 16 exact
-/// ones that stay dominates; the arcs of the nodes above follow, and the rows of those nodes are given back. It takes no memory.
+/// Takes out the nodes of the next layer, at depth `k`, that are struck by their rough bound, or that one of the first
+/// `MOST_LEADERS` exact ones that stay dominates; the arcs of the nodes above follow, and the rows of those nodes are given back.
+/// It takes no memory.
 pub fn strike<M: DpModel>(
     model: &M,
     k: usize,
@@ -230,9 +231,9 @@ pub fn strike<M: DpModel>(
     );
 }
 
-/// Takes out the nodes of the next layer, at depth `k`, that one of the first 16 exact ones that stay dominates; the arcs of the
-/// nodes above follow, and the rows of those nodes are given back. No node is struck, and no rough bound asked: it is for a layer
-/// whose struck nodes were left out before. It takes no memory.
+/// Takes out the nodes of the next layer, at depth `k`, that one of the first `MOST_LEADERS` exact ones that stay dominates; the
+/// arcs of the nodes above follow, and the rows of those nodes are given back. No node is struck, and no rough bound is computed:
+/// it is for a layer whose struck nodes were left out before. It takes no memory.
 pub fn drop_dominated<M: DpModel>(
     model: &M,
     k: usize,

@@ -3,12 +3,12 @@ ghost use Rattle.std.specs.Borrow.{sem};
 ghost use Rattle.row_region.specs.Region.{IsLive, IsRow, HasTaken, HasPut};
 ghost use Rattle.row_region.specs.Lending.{LendsRow};
 
+use crate::free_list::FreeList;
 use crate::parting::part_of;
-use crate::threading::{make_ready, pop};
 use std::alloc::{AllocError, Global};
 use std::marker::Model;
 
-/// The most rows of a region: a name has 32 bits.
+/// The greatest number of rows of a region: a name has 32 bits.
 const MOST_ROWS: usize = 0x1_0000_0000;
 
 /// The name of a row of its region: its place, by which other arrays may be indexed too.
@@ -21,17 +21,11 @@ pub struct RowId {
 /// time, so that memory for rows that are never taken stays untouched.
 #[derive(Debug, Drop)]
 pub struct Region {
-    // the first `made` rows, one after the other, with room for the others; the first cell of one that was given back is the
-    // place of the next such one
+    // the first `free.made` rows, one after the other, with room for the others
     cells: Vec<i64>,
     words: usize,
-    made: usize,
     count: usize,
-    // the place of the first row that was not taken yet; so were none after it
-    fresh: usize,
-    // the place of the first row that was given back, where there is one, and how many were
-    free: usize,
-    given: usize,
+    free: FreeList,
 }
 
 impl Model for Region {
@@ -42,9 +36,9 @@ impl Model for Region {
     ghost use Rattle.std.specs.Prelude.{◌+◌, ◌-◌, ◌*◌, ◌≤◌, vec_capacity};
     ghost use Rattle.row_region.specs.Layout.{IsSound, places};
 
-    ghost view = { λ r. record { words = r.words; rows = places r.cells.items r.words r.count r.fresh r.free r.given; spare = r.given + (r.count - r.fresh) } };
+    ghost view = { λ r. record { words = r.words; rows = places r.cells.items r.words r.count r.free.fresh r.free.first r.free.given; spare = r.free.given + (r.count - r.free.fresh) } };
 
-    ghost invariant = { λ r. IsSound r.cells.items r.words r.made r.count r.fresh r.free r.given × (r.count * r.words ≤ vec_capacity r.cells) };
+    ghost invariant = { λ r. IsSound r.cells.items r.words r.free.made r.count r.free.fresh r.free.first r.free.given × (r.count * r.words ≤ vec_capacity r.cells) };
 }
 
 impl Region {
@@ -58,11 +52,13 @@ impl Region {
         Region {
             cells: Vec::new(alloc),
             words,
-            made: 0,
             count: 0,
-            fresh: 0,
-            free: 0,
-            given: 0,
+            free: FreeList {
+                made: 0,
+                fresh: 0,
+                first: 0,
+                given: 0,
+            },
         }
     }
 
@@ -84,23 +80,9 @@ impl Region {
         requires { 0 < self.old.spare }
         ensures { (row : List ℤ) × (length row ≡ self.old.words) × HasPut self.old result.place row self.new }
     {
-        make_ready(
-            &mut self.cells,
-            self.words,
-            self.count,
-            &mut self.made,
-            self.fresh,
-            self.given,
-        );
-        let place = pop(
-            &self.cells,
-            self.words,
-            self.made,
-            self.count,
-            &mut self.fresh,
-            &mut self.free,
-            &mut self.given,
-        );
+        self.free
+            .make_ready(&mut self.cells, self.words, self.count);
+        let place = self.free.pop(&self.cells, self.words, self.count);
         RowId {
             place: place as u32,
         }
@@ -126,9 +108,9 @@ impl Region {
         ensures { self.new ≡ record self.old { rows = slice_set self.old.rows id.place None; spare = self.old.spare + 1 } }
     {
         let place = id.place as usize;
-        self.cells[place * self.words] = self.free as i64;
-        self.free = place;
-        self.given += 1;
+        self.cells[place * self.words] = self.free.first as i64;
+        self.free.first = place;
+        self.free.given += 1;
     }
 
     /// The cells of a live row.
@@ -164,7 +146,7 @@ impl Region {
         ensures spare { result ≡ self.now.spare }
         ensures counts { self.now.spare ≡ count_by is_none self.now.rows }
     {
-        self.given + (self.count - self.fresh)
+        self.free.given + (self.count - self.free.fresh)
     }
 
     /// How many rows there are, the free ones among them: at most 2^32.
@@ -187,8 +169,8 @@ impl Region {
     pub fn clear(&mut self)
         ensures { self.new ≡ record self.old { rows = replicate (length self.old.rows) None; spare = length self.old.rows } }
     {
-        self.fresh = 0;
-        self.given = 0;
+        self.free.fresh = 0;
+        self.free.given = 0;
     }
 
     /// Adds this many free rows. It fails only for want of memory, and then changes nothing.

@@ -32,6 +32,7 @@ use Rattle.dp_laws.proofs.Restricted.Joining.{best-each, expansion}
 use Rattle.dp_laws.proofs.Restricted.Keeping.{each-pruned}
 use Rattle.dp_laws.proofs.Matching.{completions-matched}
 use Rattle.dp_laws.proofs.Prefixes.{candidates-members, expanded-members, layers-prefixes}
+use Rattle.dp_model.specs.declared.limits.TheConstants.{MOST_LEADERS}
 
 -- a member with the fact
 pub one-member : {X : Type 0} (P : X → Type 0) (xs : List X) → OneOf P xs → (x : X) × Has x xs × P x
@@ -178,7 +179,7 @@ undominated-led dp k leaders (r ∷ rs) q (inl same) =
     ] in
     go (dominated dp k leaders r) refl
 undominated-led dp k leaders (r ∷ rs) q (inr later) =
-    led-more (λ a. dominates dp k a q ≡ true) leaders r q (undominated dp k (leaders_after dp k leaders r) rs) (dominated dp k leaders r) (nat_le 16 (length leaders))
+    led-more (λ a. dominates dp k a q ≡ true) leaders r q (undominated dp k (leaders_after dp k leaders r) rs) (dominated dp k leaders r) (nat_le MOST_LEADERS (length leaders))
     (undominated-led dp k (leaders_after dp k leaders r) rs q later)
 
 pub pruned-covers : (dp : Dp) → IsLawful dp → (p : List ℕ) (k : ℕ) (t : Option ℤ) (rs : List Reached) → Each (IsMember dp p k) rs → (x : List ℕ)

@@ -13,6 +13,7 @@ use Rattle.dp_laws.specs.Rules.Redirects.{Redirect}
 use Rattle.dp_laws.specs.Rules.Pruning.{Leader, redirect_within, first_redirect, at_leader, is_struck, leaders_past, pruned_nodes, prune_redirects}
 use Rattle.dp_laws.proofs.Rules.Redirecting.{GoesTo, GoesWhole, AreRedirects}
 use Rattle.dp_laws.proofs.Rules.Layers.{Differ, AreNodes}
+use Rattle.dp_model.specs.declared.limits.TheConstants.{MOST_LEADERS}
 
 -- a leader is one of the nodes that stay
 pub record IsLeader (done : List DdNode) (a : Leader) : Type 0 where
@@ -73,7 +74,7 @@ leaders-led : (done : List DdNode) (node : DdNode) (leaders : List Leader) (plac
 leaders-led done node leaders place long h =
     let more = leaders-more done node leaders h in
     let new : IsLeader (done ++ node ∷ []) (record { place = place; row = node.row; value = node.value }) = record { node = node; at = slice_get-last done node place long; row = refl; value = refl } in
-    elim (node.exact && not (nat_le 16 (length leaders))) as (λ b. Each (IsLeader (done ++ node ∷ [])) (cond b (leaders ++ record { place = place; row = node.row; value = node.value } ∷ []) leaders)) [
+    elim (node.exact && not (nat_le MOST_LEADERS (length leaders))) as (λ b. Each (IsLeader (done ++ node ∷ [])) (cond b (leaders ++ record { place = place; row = node.row; value = node.value } ∷ []) leaders)) [
       | true ↦ Each-append (IsLeader (done ++ node ∷ [])) leaders (record { place = place; row = node.row; value = node.value } ∷ []) more (new, tt)
       | false ↦ more
     ]

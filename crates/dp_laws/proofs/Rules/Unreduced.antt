@@ -16,6 +16,7 @@ use Rattle.dp_laws.specs.Rules.Redirects.{Redirect}
 use Rattle.dp_laws.specs.Rules.Expanding.{is_exact_row, node_for, new_layer}
 use Rattle.dp_laws.specs.Rules.Pruning.{Leader, redirect_within, first_redirect, at_leader, is_struck, leaders_past, pruned_nodes}
 use Rattle.dp_laws.specs.Rules.Compiling.{expand, prune}
+use Rattle.dp_model.specs.declared.limits.TheConstants.{MOST_LEADERS}
 
 -- the nodes are exact and stand for the prefixes
 abbrev pub StandFor : List DdNode → List Reached → Type 0
@@ -105,8 +106,8 @@ leaders-led : (dp : Dp) (k : ℕ) (as_ : List Leader) (rs : List Reached) (place
 leaders-led dp k as_ rs place node r h e exact free =
     let long = length-leaders as_ rs h in
     let more = leaders-then as_ rs place node r h e in
-    let full : nat_le 16 (length as_) ≡ nat_le 16 (length rs) = ap (nat_le 16) long in
-    rw (exact, free, full) (elim (nat_le 16 (length rs)) as (λ b. AreSameLeaders (cond (not b) (as_ ++ record { place = place; row = node.row; value = node.value } ∷ []) as_) (cond b rs (rs ++ r ∷ []))) [ true ↦ h | false ↦ more ])
+    let full : nat_le MOST_LEADERS (length as_) ≡ nat_le MOST_LEADERS (length rs) = ap (nat_le MOST_LEADERS) long in
+    rw (exact, free, full) (elim (nat_le MOST_LEADERS (length rs)) as (λ b. AreSameLeaders (cond (not b) (as_ ++ record { place = place; row = node.row; value = node.value } ∷ []) as_) (cond b rs (rs ++ r ∷ []))) [ true ↦ h | false ↦ more ])
 
 -- what stays of the nodes stands for what stays of the prefixes
 

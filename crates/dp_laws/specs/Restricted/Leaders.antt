@@ -3,6 +3,7 @@ use Rattle.std.specs.Prelude.{ℕ, ℤ, nat_le, Bool, false, not, cond, ◌||◌
 use Rattle.dp_model.specs.Dp.{Dp}
 use Rattle.dp_model.specs.Gaps.{covers_at, is_struck_by}
 use Rattle.dp_model.specs.Reached.{Reached}
+use Rattle.dp_model.specs.declared.limits.TheConstants.{MOST_LEADERS}
 
 -- those with a rough bound that lifts them above the threshold, where there is one
 abbrev pub unstruck : Dp → ℕ → Option ℤ → List Reached → List Reached
@@ -17,9 +18,9 @@ abbrev pub dominated : Dp → ℕ → List Reached → Reached → Bool
 dominated dp k [] r = false
 dominated dp k (a ∷ leaders) r = dominates dp k a r || dominated dp k leaders r
 
--- the leaders after the prefix: it is one of them if none of them dominates it and there are fewer than 16
+-- the leaders after the prefix: it is one of them if none of them dominates it and there are fewer than `MOST_LEADERS`
 abbrev pub leaders_after : Dp → ℕ → List Reached → Reached → List Reached
-leaders_after dp k leaders r = cond (dominated dp k leaders r || nat_le 16 (length leaders)) leaders (leaders ++ r ∷ [])
+leaders_after dp k leaders r = cond (dominated dp k leaders r || nat_le MOST_LEADERS (length leaders)) leaders (leaders ++ r ∷ [])
 
 -- what the leaders so far, and those that are still to come, leave of the rest
 abbrev pub undominated : Dp → ℕ → List Reached → List Reached → List Reached

@@ -2,6 +2,7 @@
 use Rattle.std.specs.Prelude.{ℕ, ◌+◌, nat_le, ℤ, pos, ◌+ℤ◌, int_le, Bool, not, cond, ◌&&◌, ◌||◌, List, [], ◌∷◌, ◌++◌, length, Option, Some, None, is_some}
 use Rattle.dp_model.specs.Dp.{Dp}
 use Rattle.dp_model.specs.Gaps.{is_struck_by}
+use Rattle.dp_model.specs.declared.limits.TheConstants.{MOST_LEADERS}
 use Rattle.dp_laws.specs.Diagrams.Nodes.{DdNode}
 use Rattle.dp_laws.specs.Rules.Redirects.{Redirect}
 
@@ -27,14 +28,14 @@ at_leader dp k [] node = None
 at_leader dp k (a ∷ leaders) node =
     first_redirect (redirect_within a.place (dp.gap k a.row node.row) a.value node.value) (at_leader dp k leaders node)
 
--- whether the rough bound of a node is at most the threshold
+-- whether a node is struck: its value plus its rough bound is at most the threshold, or it has no rough bound
 abbrev pub is_struck : Dp → ℕ → Option ℤ → DdNode → Bool
 is_struck dp k t node = is_struck_by node.value (dp.rough k node.row) t
 
--- the leaders after a node that stays at the place: an exact one becomes a leader while there are fewer than 16
+-- the leaders after a node that stays at the place: an exact one becomes a leader while there are fewer than `MOST_LEADERS`
 abbrev pub leaders_past : List Leader → ℕ → DdNode → List Leader
 leaders_past leaders place node =
-    cond (node.exact && not (nat_le 16 (length leaders))) (leaders ++ record { place = place; row = node.row; value = node.value } ∷ []) leaders
+    cond (node.exact && not (nat_le MOST_LEADERS (length leaders))) (leaders ++ record { place = place; row = node.row; value = node.value } ∷ []) leaders
 
 -- the nodes that stay
 abbrev pub pruned_nodes : Dp → ℕ → Option ℤ → List Leader → ℕ → List DdNode → List DdNode

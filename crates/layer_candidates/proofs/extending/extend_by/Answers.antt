@@ -7,7 +7,7 @@ use Rattle.layer_candidates.specs.HeldRows.{held_row}
 use Rattle.layer_candidates.specs.Rows.{HasZeros}
 use Rattle.layer_candidates.specs.Ways.{rows_of, way_row, IsWay, AreJoined}
 use Rattle.layer_candidates.proofs.HeldRows.{exchange-then}
-use Rattle.layer_candidates.proofs.Joined.{table-same, hashed-same, joined-same, reached-same}
+use Rattle.layer_candidates.proofs.Joined.{hashed-same, joined-same, reached-same}
 use Rattle.layer_candidates.proofs.Extended.{written, rows-zeros, have-hash, is-way, way-reaches, extended-one, spotted}
 use Rattle.layer_candidates.proofs.extending.extend_by.Given as given
 use Rattle.layer_candidates.proofs.extending.extend_by.Goals as goal
@@ -21,13 +21,7 @@ placed (inl h) = let e = h.1 in let less = h.0 in omega arith
 placed (inr h) = let e = h.1 in let same = h.0 in omega arith
 
 pub take_in-place-requires-clause-table : goal.take_in-place-requires-clause-table
-take_in-place-requires-clause-table g c =
-    let dp = g.M.DpModel.meaning (g.M.DpModel.numbers c.args.model.now) in
-    let a = c.args in
-    let e = c.in_ok-gained.ensures in
-    let allowed : IsAllowed dp a.k a.parent.state.now a.decision = record { layer = c.requires.layer; choice = c.requires.choice; test = sym e.allowed } in
-    let w = written dp (laws_of g a.model.now) a.k a.parent.state.now a.decision a.region.now c.write_state.new.region a.spot.now.place a.table.now.ways.items c.requires.state allowed c.requires.held (e.written refl) in
-    table-same (way_row a.region.now a.table.now.ways.items) (way_row c.write_state.new.region a.table.now.ways.items) a.table.now.ways.items w.rows a.table.now.live a.table.now.hashes.items a.table.now.heads.items a.table.now.next.items c.requires.joined.table
+take_in-place-requires-clause-table g c = c.requires.joined.table
 
 pub row_of-next-requires : goal.row_of-next-requires
 row_of-next-requires g c =

@@ -2,7 +2,8 @@ use Rattle.std.proofs.Common.{◌≡◌, ◌≤◌, ◌++◌, not, filter, drop,
 use Rattle.layer_candidates.specs.HeldRows.{HasLeft}
 use Rattle.layer_candidates.specs.KeyOrder.{key_at, key_rows}
 use Rattle.layer_candidates.specs.Pruning.{struck}
-use Rattle.layer_candidates.specs.Ways.{table, rows_of}
+use Rattle.row_region.specs.Layout.{table}
+use Rattle.layer_candidates.specs.Ways.{rows_of}
 use Rattle.layer_candidates.proofs.striking.list_unstruck.Given as goal
 
 abbrev pub invariant-ways : goal.invariant-ways

@@ -5,7 +5,7 @@ use Rattle.layer_candidates.proofs.Tops.{inserted}
 use Rattle.layer_candidates.proofs.table.WayTable.enter.Goals as goal
 
 pub returns-clause-table : goal.returns-clause-table
-returns-clause-table c = λ row live t.
+returns-clause-table c = λ t.
     let a = c.args in
     let t0 = a.self.now in
     let size : c.len.result ≡ length t0.heads.items = search rules in
@@ -14,4 +14,4 @@ returns-clause-table c = λ row live t.
     let first : c.slot-at.result < length t0.heads.items = subst (λ (n : ℕ). c.slot-at.result < n) size c.slot-at.ensures.within in
     let less : slot_of a.hash (length t0.heads.items) < length t0.heads.items = subst (λ (k : ℕ). k < length t0.heads.items) at first in
     let before : c.index.result.now ≡ get_or t0.heads.items c.slot-at.result 0 = get_or_read_under t0.heads.items c.slot-at.result (length t0.heads.items) c.index.result.now 0 c.index.ensures first refl in
-    rw (before, at, count, add-one (length t0.ways.items)) (inserted row live (length t0.ways.items) a.hash t0.hashes.items t0.heads.items t0.next.items t c.requires.hashes c.requires.next less)
+    rw (before, at, count, add-one (length t0.ways.items)) (inserted (length t0.ways.items) a.hash t0.hashes.items t0.heads.items t0.next.items t c.requires.hashes c.requires.next less)

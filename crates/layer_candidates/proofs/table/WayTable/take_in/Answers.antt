@@ -24,12 +24,11 @@ returns-then-place-count-clause-joined c = λ dp k j one.
     let row = held_row a.region.now a.way.row in
     let size : c.len-count.result ≡ length ways = search rules in
     let h = found a.region.now a.self.now.live ways row c.live_cells_of-new.result.now c.find-place.result c.live_cells_of-new.ensures c.find-place.ensures in
-    let new = way_row a.region.now (ways ++ a.way ∷ []) in
     let items : c.push_reserved.new.self.items ≡ ways ++ a.way ∷ [] = c.push_reserved.ensures.items ∙ ap (λ v. v.items ++ a.way ∷ []) c.enter.ensures.ways in
     subst (λ v. AreJoined dp k (way_row a.region.now c.push_reserved.new.self.items) v c.push_reserved.new.self.items c.enter.new.self.hashes.items c.enter.new.self.heads.items c.enter.new.self.next.items) (sym c.enter.ensures.live)
     (subst (λ l. AreJoined dp k (way_row a.region.now l) a.self.now.live l c.enter.new.self.hashes.items c.enter.new.self.heads.items c.enter.new.self.next.items) (sym items)
     (pushed-joined a.region.now ways a.way dp k a.self.now.live a.self.now.hashes.items a.self.now.heads.items a.self.now.next.items c.enter.new.self.hashes.items c.enter.new.self.heads.items c.enter.new.self.next.items (let hold = c.requires.room.ways.hashes_hold in omega arith) c.enter.ensures.hashes (h.none (c.if-place-count.true ∙ size)) j one
-    (λ t. c.enter.ensures.table new a.self.now.live t)))
+    c.enter.ensures.table))
 
 pub returns-then-place-count-clause-list : goal.returns-then-place-count-clause-list
 returns-then-place-count-clause-list c = λ paths apart.

@@ -20,7 +20,7 @@ pub invariant_of-self-lent : goal.invariant_of-self-lent
 invariant_of-self-lent c = λ w.
     let i = c.self.inside in
     let live = rw (← c.self.view_is) at c.requires.1 in (
-      lent_sound i.cells.items i.words i.made i.count i.fresh i.free i.given c.args.id.place i.cells.len c.requires.0 w c.self.invariant.0 live i.cells.ok.0,
+      lent_sound i.cells.items i.words i.free.made i.count i.free.fresh i.free.first i.free.given c.args.id.place i.cells.len c.requires.0 w c.self.invariant.0 live i.cells.ok.0,
       c.self.invariant.1,
     )
 
@@ -33,8 +33,8 @@ returns c =
     let e : c.part_of.result.now ≡ c.requires.0 = c.part_of.ensures.value ∙ row in (
       (
         refl,
-        λ w. rw (← c.self.view_is) (ap (λ (l : List (Option (List ℤ))). record { words = i.words; rows = l; spare = i.given + (i.count - i.fresh) })
-            (lent_places i.cells.items i.words i.made i.count i.fresh i.free i.given c.args.id.place i.cells.len c.requires.0 w c.self.invariant.0 live i.cells.ok.0)),
+        λ w. rw (← c.self.view_is) (ap (λ (l : List (Option (List ℤ))). record { words = i.words; rows = l; spare = i.free.given + (i.count - i.free.fresh) })
+            (lent_places i.cells.items i.words i.free.made i.count i.free.fresh i.free.first i.free.given c.args.id.place i.cells.len c.requires.0 w c.self.invariant.0 live i.cells.ok.0)),
       ),
       record {
         writes_back = tt;

@@ -18,4 +18,4 @@ overflow_add-result c =
 pub returns-clause-counts : goal.returns-clause-counts
 returns-clause-counts c =
     let i = c.self.inside in
-    subst (λ (v : RegionView). v.spare ≡ count_by is_none v.rows) c.self.view_is (places_count i.cells.items i.words i.count i.fresh i.free i.given c.self.invariant.0.chained)
+    subst (λ (v : RegionView). v.spare ≡ count_by is_none v.rows) c.self.view_is (places_count i.cells.items i.words i.count i.free.fresh i.free.first i.free.given c.self.invariant.0.chained)
