@@ -2,7 +2,6 @@
 use Rattle.std.specs.Prelude.{◌≡◌, ℕ, true, List, [], ◌∷◌, ◌++◌, length, map, Option, Some, None, option_map}
 use Rattle.dp_model.specs.Solution.{Solution}
 use Rattle.dp_model.specs.Subproblem.{Subproblem, SubView}
-use Rattle.dp_model.specs.declared.found.Found.{Found}
 use Rattle.dp_laws.specs.Diagrams.Nodes.{DdNode, DdLayers, node_at}
 use Rattle.dp_laws.specs.Diagrams.Cutsets.{ChildAt, child_from}
 
@@ -39,18 +38,6 @@ IsExactNode (Some node) = node.exact ≡ true
 abbrev pub MayKeep : ℕ → Option DdNode → Type 0
 MayKeep words None = ⊥
 MayKeep words (Some node) = (node.exact ≡ true) × (length node.row ≡ words)
-
--- the solution with its value and its decisions, and none exactly where there is none
-pub record IsShown (s : Solution) (f : Found) : Type 0 where
-  pub value : f.value ≡ s.value
-  pub decisions : f.decisions.now ≡ s.decisions
-
--- what is shown is the solution, or none where there is none
-abbrev pub ShowsSolution : Option Solution → Option Found → Type 0
-ShowsSolution None None = Unit {0}
-ShowsSolution None (Some f) = ⊥
-ShowsSolution (Some s) None = ⊥
-ShowsSolution (Some s) (Some f) = IsShown s f
 
 -- what subproblems in memory are
 abbrev pub subproblems : List SubView → List Subproblem

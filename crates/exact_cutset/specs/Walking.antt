@@ -121,13 +121,13 @@ pub record HasWalkedLayer (dp : Dp) (d : DdLayers) (depth : ℕ) (marks : List B
 abbrev pub HasFrontier : Dp → DdLayers → ChildrenView → ChildrenView → Type 0
 HasFrontier dp d old new = new ≡ record old { places = frontier_at dp d; subs = map (child_from d) (frontier_at dp d) }
 
--- whether a node is exact, and its stem is free by the marks of the layer above
+-- whether the stem of an exact node is free, by the marks of the layer above
 pub record IsMarkedFree (d : DdLayers) (depth : ℕ) (above : List Bool) (node : DdNode) (free : Bool) : Type 0 where
   pub place : ℕ
   pub stems : StemsAt d depth place (Some node)
   pub at : slice_get above place ≡ Some free
 
--- whether all arcs of a node are free
+-- whether a node is free: an inexact one never is, and an exact one is where its stem is free
 abbrev pub IsFreeNode : DdLayers → ℕ → List Bool → Option DdNode → Bool → Type 0
 IsFreeNode d depth above None free = ⊥
 IsFreeNode d depth above (Some node) free = (node.exact ≡ false → free ≡ false) × (node.exact ≡ true → IsMarkedFree d depth above node free)

@@ -1,9 +1,10 @@
 ghost use Rattle.std.specs.Prelude.{◌≡◌, ◌<◌, ◌≤◌, Some, length, option_map, slice_get, IfOk};
 ghost use Rattle.dp_laws.specs.Children.{children_size};
 ghost use Rattle.dp_laws.specs.Diagrams.Cutsets.{children_at, children_of, found_in};
+ghost use Rattle.layer_build.specs.Finding.{IsFound};
 ghost use Rattle.relaxed_dd.specs.Shown.{layers_of, width_of, IsDiagramOf};
 ghost use Rattle.exact_cutset.specs.Prepared.{IsListPreparedFor};
-ghost use Rattle.exact_cutset.specs.Seen.{ShowsSolution, subproblems};
+ghost use Rattle.exact_cutset.specs.Seen.{subproblems};
 
 use crate::listed::Listed;
 use crate::taking::take;
@@ -16,7 +17,7 @@ use std::marker::Model;
 #[derive(Debug, Drop)]
 pub struct Children {
     pub(crate) list: Listed,
-    // of the nodes of a layer, and of the one above it, whether a child may still stand below
+    // for each node of the layer above, and of the layer that is looked at, whether a child may still stand below it
     pub(crate) above: Vec<bool>,
     pub(crate) here: Vec<bool>,
 }
@@ -60,7 +61,7 @@ impl Children {
         self.list.len()
     }
 
-    /// The bytes of a record that names all children: 12 for itself, and for each child 20 and 4 for each of its decisions.
+    /// The bytes of the journal's record of all children: 12 for itself, and for each child 20 and 4 for each of its decisions.
     pub fn size(&self) -> u64
         ensures { result ≡ children_size self.now.subs }
     {
@@ -85,7 +86,7 @@ impl Children {
 
     /// The solution that the diagram finds, or none where its last layer has no exact node.
     pub fn found(&self) -> Option<Found<'_>>
-        ensures { ShowsSolution self.now.found result }
+        ensures { IsFound self.now.found result }
     {
         self.list.found()
     }

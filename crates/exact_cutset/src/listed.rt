@@ -1,8 +1,9 @@
 ghost use Rattle.std.specs.Prelude.{◌≡◌, ◌<◌, ◌≤◌, [], None, Some, length, option_map, slice_get, IfOk};
 ghost use Rattle.dp_laws.specs.Children.{children_size};
 ghost use Rattle.dp_laws.specs.Diagrams.Nodes.{node_at};
+ghost use Rattle.layer_build.specs.Finding.{IsFound};
 ghost use Rattle.relaxed_dd.specs.Shown.{layers_of, last_of};
-ghost use Rattle.exact_cutset.specs.Seen.{ShowsSolution, MayKeep, IsExactNode, with_child, with_solution, subproblems};
+ghost use Rattle.exact_cutset.specs.Seen.{MayKeep, IsExactNode, with_child, with_solution, subproblems};
 
 use crate::appending::{append_path, append_row};
 use crate::child::Child;
@@ -12,7 +13,17 @@ use relaxed_dd::Diagram;
 use std::alloc::Global;
 use std::marker::Model;
 
-/// Children in memory, in order, and the solution that is found. `wide` is for how many nodes of a layer there is room.
+/// The bytes of a journal record of children, but for the children.
+const HEAD_BYTES: u64 = 12;
+
+/// The bytes of a child in such a record, but for its decisions.
+const CHILD_BYTES: u64 = 20;
+
+/// The bytes of a decision in such a record.
+const DECISION_BYTES: u64 = 4;
+
+/// Children in memory, in order, and the solution that is found. There is room for `room` children, and for marks of the `wide`
+/// nodes of a layer.
 #[derive(Debug, Drop)]
 pub(crate) struct Listed {
     pub(crate) width: usize,
@@ -95,11 +106,13 @@ impl Listed {
         self.places.len()
     }
 
-    /// The bytes of a record that names all children.
+    /// The bytes of the journal's record of all children.
     pub(crate) fn size(&self) -> u64
         ensures { result ≡ children_size self.now.subs }
     {
-        12 + 20 * self.places.len() as u64 + 4 * self.paths.len() as u64
+        HEAD_BYTES
+            + CHILD_BYTES * self.places.len() as u64
+            + DECISION_BYTES * self.paths.len() as u64
     }
 
     /// The depth and the place of a child's node in the diagram.
@@ -121,7 +134,7 @@ impl Listed {
 
     /// The solution that the diagram finds, or none where its last layer has no exact node.
     pub(crate) fn found(&self) -> Option<Found<'_>>
-        ensures { ShowsSolution self.now.found result }
+        ensures { IsFound self.now.found result }
     {
         let value = self.found?;
         Some(Found {

@@ -1,15 +1,15 @@
--- Layers of which no more than suffixes differ, and a diagram in which a suffix is set.
+-- Layers that differ in suffixes only.
 use Rattle.std.proofs.Common.{◌≡◌, ◌≢◌, ℕ, zero, suc, ◌+◌, ◌-◌, ◌*◌, ◌≤◌, ℤ, List, [], ◌∷◌, map, length, slice_get, Option, Some, None, IsTrue, refl, sym, ap, ap₂, ◌∙◌, subst, arith}
 use Rattle.dp_model.specs.Dp.{Dp}
 use Rattle.dp_model.specs.Gaps.{IsStateOf}
 use Rattle.dp_model.specs.Lists.{Each}
 use Rattle.dp_laws.specs.declared.arc.DdArc.{DdArc}
-use Rattle.dp_laws.specs.Diagrams.Nodes.{DdNode, path_below}
+use Rattle.dp_laws.specs.Diagrams.Nodes.{DdNode}
 use Rattle.dp_laws.specs.Rules.Compiling.{TwoLayers}
 use Rattle.dp_laws.specs.Rules.Within.{IsBetween, IsLayerWithin, AreWithin, IsArcWithin, LeadsWithin, ReachesWithin}
 use Rattle.dp_model.proofs.Members.{Each-then}
-use Rattle.layer_nodes.specs.Nodes.{Told, told_by, told_of, NodeView, shown, shown_from, shown_layer, suffix_set}
-use Rattle.layer_build.specs.Layers.{SpaceView, last_depth, last_layer, suffix_at_node, suffix_in}
+use Rattle.layer_nodes.specs.Nodes.{Told, told_of, NodeView, shown, shown_layer}
+use Rattle.layer_build.specs.Layers.{SpaceView, last_depth, last_layer}
 use Rattle.layer_build.specs.Stacked.{path_in, paths_below, shown_down, HaveDepths}
 use Rattle.layer_build.specs.UnderWay.{last_two, IsUnderWay}
 
@@ -36,18 +36,6 @@ like-self (a ∷ xs) = (refl, like-self xs)
 all-like-self : (l : List (List DdNode)) → AreAllLike l l
 all-like-self [] = tt
 all-like-self (x ∷ l) = (like-self x, all-like-self l)
-
-like-set : (i : ℕ) (s : Option ℤ) (xs : List DdNode) → AreLike xs (suffix_at_node i s xs)
-like-set zero s [] = tt
-like-set (suc i) s [] = tt
-like-set zero s (a ∷ xs) = (refl, like-self xs)
-like-set (suc i) s (a ∷ xs) = (refl, like-set i s xs)
-
-pub like-in : (j i : ℕ) (s : Option ℤ) (l : List (List DdNode)) → AreAllLike l (suffix_in j i s l)
-like-in zero i s [] = tt
-like-in (suc j) i s [] = tt
-like-in zero i s (x ∷ l) = (like-set i s x, all-like-self l)
-like-in (suc j) i s (x ∷ l) = (like-self x, like-in j i s l)
 
 like-with : (rule : List DdArc → Option ℤ) (xs : List DdNode) → AreLike xs (map (λ (n : DdNode). record n { suffix = rule n.arcs }) xs)
 like-with rule [] = tt
@@ -184,26 +172,7 @@ like-under-way dp s m h u =
       second = λ same. (let least = u.second (omega arith) in omega arith);
     }
 
--- ---- a suffix is set in memory
-
-shown-set : (paths : ℕ → List ℕ) (p : ℕ) (nodes : List NodeView) (i : ℕ) (s : Option ℤ) → shown_from paths p (suffix_set nodes i s) ≡ suffix_at_node i s (shown_from paths p nodes)
-shown-set paths p [] zero s = refl
-shown-set paths p [] (suc i) s = refl
-shown-set paths p (n ∷ nodes) zero s = refl
-shown-set paths p (n ∷ nodes) (suc i) s = ap (λ (l : List DdNode). shown (paths p) n ∷ l) (shown-set paths (p + 1) nodes i s)
-
-pub set-ranks : (nodes : List NodeView) (i : ℕ) (s : Option ℤ) → map told_by (suffix_set nodes i s) ≡ map told_by nodes
-set-ranks [] zero s = refl
-set-ranks [] (suc i) s = refl
-set-ranks (n ∷ nodes) zero s = refl
-set-ranks (n ∷ nodes) (suc i) s = ap (λ (l : List Told). told_by n ∷ l) (set-ranks nodes i s)
-
-paths-set : (above : List (List ℕ)) (nodes : List NodeView) (i : ℕ) (s : Option ℤ) → paths_below above (suffix_set nodes i s) ≡ paths_below above nodes
-paths-set above [] zero s = refl
-paths-set above [] (suc i) s = refl
-paths-set above (n ∷ nodes) zero s = refl
-paths-set above (n ∷ nodes) (suc i) s = ap (λ (l : List (List ℕ)). path_below (path_in above) n.parent n.decision ∷ l) (paths-set above nodes i s)
-
+-- layers that are equal in memory down to a depth are shown as the same
 pub same-down : (old new : ℕ → List NodeView) (e : ℕ) (k m : ℕ) → k + m ≤ e → ((j : ℕ) → k ≤ j → j ≤ e → new j ≡ old j) → (ps : List (List ℕ)) → shown_down new ps k m ≡ shown_down old ps k m
 same-down old new e k zero low same ps = ap (λ (l : List NodeView). shown_layer (path_in ps) l ∷ []) (same k (omega arith) (omega arith))
 same-down old new e k (suc m) low same ps =
@@ -211,28 +180,3 @@ same-down old new e k (suc m) low same ps =
     let next = same (k + 1) (omega arith) (omega arith) in
     let rest = same-down old new e (k + 1) m (omega arith) (λ j above below. same j (omega arith) below) (paths_below ps (new (k + 1))) in
     ap₂ (λ (a : List DdNode) (b : List (List DdNode)). a ∷ b) (ap (shown_layer (path_in ps)) here) (rest ∙ ap (λ (l : List NodeView). shown_down old (paths_below ps l) (k + 1) m) next)
-
--- the layers where a suffix is set at depth d, of layers down to depth e
-pub set-down : (old new : ℕ → List NodeView) (d e i : ℕ) (s : Option ℤ) → ((j : ℕ) → j ≤ e → j ≢ d → new j ≡ old j) → new d ≡ suffix_set (old d) i s
-    → (ps : List (List ℕ)) (k m j : ℕ) → k + j ≡ d → j ≤ m → k + m ≤ e → shown_down new ps k m ≡ suffix_in j i s (shown_down old ps k m)
-set-down old new d e i s same here ps k zero zero at within low =
-    let is : d ≡ k = omega arith in
-    let there : new k ≡ suffix_set (old k) i s = subst (λ (h : ℕ). new h ≡ suffix_set (old h) i s) is here in
-    ap (λ (l : List NodeView). shown_layer (path_in ps) l ∷ []) there ∙ ap (λ (l : List DdNode). l ∷ []) (shown-set (path_in ps) 0 (old k) i s)
-set-down old new d e i s same here ps k zero (suc j) at within low = absurd (omega arith)
-set-down old new d e i s same here ps k (suc m) zero at within low =
-    let is : d ≡ k = omega arith in
-    let there : new k ≡ suffix_set (old k) i s = subst (λ (h : ℕ). new h ≡ suffix_set (old h) i s) is here in
-    let next = same (k + 1) (omega arith) (λ f. absurd (omega arith)) in
-    let rest = same-down old new e (k + 1) m (omega arith) (λ h above below. same h below (λ f. absurd (omega arith))) (paths_below ps (new (k + 1))) in
-    ap₂ (λ (a : List DdNode) (b : List (List DdNode)). a ∷ b) (ap (shown_layer (path_in ps)) there ∙ shown-set (path_in ps) 0 (old k) i s) (rest ∙ ap (λ (l : List NodeView). shown_down old (paths_below ps l) (k + 1) m) next)
-set-down old new d e i s same here ps k (suc m) (suc j) at within low =
-    let first = same k (omega arith) (λ f. absurd (omega arith)) in
-    let rest = set-down old new d e i s same here (paths_below ps (new (k + 1))) (k + 1) m j (omega arith) (omega arith) (omega arith) in
-    ap₂ (λ (a : List DdNode) (b : List (List DdNode)). a ∷ b) (ap (shown_layer (path_in ps)) first) (rest ∙ ap (λ (p : List (List ℕ)). suffix_in j i s (shown_down old p (k + 1) m)) (paths j (omega arith)))
-  where
-    paths : (j' : ℕ) → k + suc j' ≡ d → paths_below ps (new (k + 1)) ≡ paths_below ps (old (k + 1))
-    paths zero f =
-        let is : d ≡ k + 1 = omega arith in
-        ap (paths_below ps) (subst (λ (h : ℕ). new h ≡ suffix_set (old h) i s) is here) ∙ paths-set ps (old (k + 1)) i s
-    paths (suc j') f = ap (paths_below ps) (same (k + 1) (omega arith) (λ g. absurd (omega arith)))

@@ -1,5 +1,5 @@
 -- What is seen of a workspace: the layers of a diagram that is under way.
-use Rattle.std.specs.Prelude.{◌≡◌, ℕ, zero, suc, ◌+◌, ◌-◌, ◌*◌, ◌^◌, ◌<◌, ◌≤◌, ℤ, List, [], ◌∷◌, length, map, drop, sum_by, Option, Some, None, unwrap_or, slice_get}
+use Rattle.std.specs.Prelude.{◌≡◌, ℕ, ◌+◌, ◌-◌, ◌*◌, ◌^◌, ◌<◌, ◌≤◌, List, [], ◌∷◌, length, map, drop, sum_by, Option, Some, None, unwrap_or, slice_get}
 use Rattle.dp_model.specs.Dp.{Dp}
 use Rattle.dp_model.specs.Decisions.{below}
 use Rattle.dp_laws.specs.Width.{FitsWidth}
@@ -80,18 +80,6 @@ on_last_two rule (layer ∷ above ∷ next ∷ rest) = layer ∷ on_last_two rul
 abbrev pub reduced_first : Option ℕ → ℕ → Option ℕ
 reduced_first None depth = Some depth
 reduced_first (Some first) depth = Some first
-
--- the layers with the suffix of the node at the depth, of which the first layer has the given one
-abbrev pub suffix_at_node : ℕ → Option ℤ → List DdNode → List DdNode
-suffix_at_node i s [] = []
-suffix_at_node zero s (node ∷ nodes) = record node { suffix = s } ∷ nodes
-suffix_at_node (suc i) s (node ∷ nodes) = node ∷ suffix_at_node i s nodes
-
--- the layers with the suffix of the i-th node of the j-th of them
-abbrev pub suffix_in : ℕ → ℕ → Option ℤ → List (List DdNode) → List (List DdNode)
-suffix_in j i s [] = []
-suffix_in zero i s (layer ∷ layers) = suffix_at_node i s layer ∷ layers
-suffix_in (suc j) i s (layer ∷ layers) = layer ∷ suffix_in j i s layers
 
 -- how many nodes the layers have whose rows are held
 abbrev pub live_in : SpaceView → ℕ

@@ -7,13 +7,13 @@ ghost use Rattle.dp_model.specs.Lists.{Each};
 ghost use Rattle.dp_laws.specs.Diagrams.Nodes.{node_at};
 ghost use Rattle.dp_laws.specs.Diagrams.Cutsets.{first_exact};
 ghost use Rattle.layer_nodes.specs.Ending.{MayAdd, MayLead};
-ghost use Rattle.layer_build.specs.Layers.{diagram_of, last_depth, layer_at, last_layer, suffix_in, live_in};
+ghost use Rattle.layer_build.specs.Layers.{diagram_of, last_depth, layer_at, last_layer, live_in};
 ghost use Rattle.layer_build.specs.Ended.{ended_at};
 ghost use Rattle.layer_build.specs.Finding.{IsFound, IsFoundAs, StaysButPath, StaysSeen};
 ghost use Rattle.layer_build.specs.UnderWay.{IsUnderWay};
 
 use crate::ending::end_layer;
-use crate::stack::{layer_at, place_of};
+use crate::stack::layer_at;
 use crate::walking::{exact_place, parent_or_first, write_front, write_path};
 use crate::workspace::Workspace;
 use dp_laws::DdArc;
@@ -41,7 +41,7 @@ impl Workspace {
         self.stack.last
     }
 
-    /// The least depth that was reduced.
+    /// The least depth of a layer that was reduced, or none where no layer was.
     pub fn first_reduced(&self) -> Option<usize>
         ensures { result ≡ self.now.first_reduced }
     {
@@ -100,21 +100,6 @@ impl Workspace {
         ensures { option_map (λ n. n.suffix) (node_at (diagram_of self.now) depth node) ≡ Some result }
     {
         layer_at(&self.stack, depth).suffix(node)
-    }
-
-    /// Sets the suffix of a node.
-    pub fn set_suffix(&mut self, depth: usize, node: usize, suffix: Option<i64>)
-        requires first { length self.old.prefix ≤ depth }
-        requires place { IsSome (node_at (diagram_of self.old) depth node) }
-        ensures layers { self.new ≡ record self.old { layers = suffix_in (depth - length self.old.prefix) node suffix self.old.layers } }
-        ensures under_way { (dp : Dp) → IsUnderWay dp self.old → IsUnderWay dp self.new }
-    {
-        if depth == self.stack.last {
-            self.stack.newest.set_suffix(node, suffix);
-        } else {
-            let at = place_of(self.stack.vars, self.stack.first, depth);
-            self.stack.layers[at].set_suffix(node, suffix);
-        }
     }
 
     /// Sets the suffixes of all nodes at the depth, where those of the layer below are known and the last layer is that of all

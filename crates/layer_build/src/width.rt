@@ -27,7 +27,8 @@ fn width_within<M: DpModel>(model: &M) -> u32
     }
 }
 
-/// The greatest width whose layers stay within the cost formula. It is at least 1.
+/// The greatest width of a diagram of the model: at most `MOST_WIDTH`, and the width times the sum over the layers of 4 times the
+/// choices plus the words is at most `MOST_COST`. It is at least 1. The cost is a measure, and not the memory itself.
 pub fn greatest_width<M: DpModel>(model: &M) -> u32
     ensures greatest { IsGreatestWidth (M.meaning (M.numbers model.now)) result }
     ensures some { 1 ≤ result }

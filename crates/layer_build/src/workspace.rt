@@ -17,7 +17,7 @@ ghost use Rattle.layer_build.specs.UnderWay.{IsUnderWay};
 use crate::preparing::{choices_of, prepare_stack, room_for};
 use crate::stack::{Stack, drop_above, expand_newest, place_above, place_of};
 use crate::width::greatest_width;
-use dp_model::{DpModel, OutOfMemory, Sub};
+use dp_model::{DpModel, MOST_CHOICES, OutOfMemory, Sub};
 use layer_candidates::{Beam, Beamed, Limits, Start};
 use layer_nodes::{Expansion, Redirects, Strikes, drop_dominated, keep_first, merge_rest, strike};
 use std::alloc::Global;
@@ -100,7 +100,7 @@ impl Workspace {
         let room = room_for(model, width);
         let vars = model.vars();
         let words = model.words();
-        let widest = width.max(1024);
+        let widest = width.max(MOST_CHOICES);
         let beam = Beam::prepare(alloc, words, room, widest, widest + vars * width)?;
         Ok(Workspace {
             words,
@@ -186,7 +186,7 @@ impl Workspace {
 
     /// Expands the last layer as `expand_layer` does, but of the new last layer those nodes are left out that are struck by their
     /// rough bound; the arcs to them have no target. They are neither put in order nor made, and `strike` finds them no more.
-    pub fn expand_sifted<M: DpModel>(&mut self, model: &M, threshold: Option<i64>)
+    fn expand_sifted<M: DpModel>(&mut self, model: &M, threshold: Option<i64>)
         requires under_way { IsUnderWay (M.meaning (M.numbers model.now)) self.old }
         requires below { last_depth self.old < (M.meaning (M.numbers model.now)).vars }
         requires narrow { length self.old.prefix + 2 ≤ last_depth self.old → length (last_layer self.old.layers) ≤ self.old.width }
@@ -342,7 +342,7 @@ impl Workspace {
         )
     }
 
-    /// The decisions of the last beam.
+    /// The decisions of the last beam, until `first_exact` writes others over them.
     pub fn decisions(&self) -> &[u32]
         ensures { result.now ≡ self.now.path }
     {

@@ -29,7 +29,7 @@ impl<'w> Diagram<'w> {
         self.space.last_depth()
     }
 
-    /// The least depth that was reduced.
+    /// The least depth of a layer that was reduced, or none where no layer was.
     pub fn first_reduced(&self) -> Option<usize>
         ensures { result ≡ (layers_of self.now).first_reduced }
     {

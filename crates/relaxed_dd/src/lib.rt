@@ -1,12 +1,17 @@
-//! Relaxed diagrams: of each layer that is too wide the last nodes are merged, so that a path of no less length is left for
-//! each completion.
+//! Relaxed diagrams: where a layer is too wide, its last nodes are merged into one. Each completion of the prefix that is above
+//! the threshold has a path in the diagram that is no shorter.
 //!
-//! It stands on `layer_build`, in whose workspace the layers are made. The diagram is the one that the rules of `dp_laws`
-//! define on plain lists of nodes. No call takes memory.
+//! It stands on `dp_model`, `dp_laws`, `layer_build`, in whose workspace the layers are made, and `wide_layers`. The diagram is
+//! the one that the rules of `dp_laws` define on plain lists of nodes. `relaxed` compiles a diagram and shows it; `compile` and
+//! `shown` do the two apart. `relaxed_with` and `compile_with` give the same diagrams and expand each layer by an `Expander` of
+//! `wide_layers`. No call fails for want of memory; only an `Expander` in several parts takes some.
 //!
 //! ```
 //! let diagram = relaxed(&mut space, &model, &sub, None);
-//! let bound = diagram.suffix(diagram.first_depth(), 0);
+//! // No completion of the prefix has a greater value than `bound`; without a suffix there is no completion.
+//! if let Some(suffix) = diagram.suffix(diagram.first_depth(), 0) {
+//!     let bound = sub.value + suffix;
+//! }
 //! ```
 #![tactic(auto)]
 

@@ -1,4 +1,4 @@
-//! The same diagrams where each layer is expanded in a way that the caller chooses.
+//! The same diagrams, whose layers are expanded by an expander of the caller.
 
 ghost use Rattle.std.specs.Prelude.{◌≡◌, ◌+◌, ◌<◌, ◌≤◌, length};
 ghost use Rattle.std.specs.Borrow.{sem};
@@ -17,14 +17,14 @@ use crate::suffixes::set_all;
 use dp_model::{DpModel, Sub};
 use layer_build::Workspace;
 use std::thread::Threads;
-use wide_layers::Way;
+use wide_layers::Expander;
 
 /// Builds the next layer.
 fn build_layer<M: DpModel, R: Threads + Sync>(
     space: &mut Workspace,
     model: &M,
     threshold: Option<i64>,
-    way: &mut Way<'_, R>,
+    expander: &mut Expander<'_, R>,
 )
     requires under_way { IsUnderWay (M.meaning (M.numbers model.now)) space.old }
     requires some { 0 < length space.old.layers }
@@ -32,7 +32,7 @@ fn build_layer<M: DpModel, R: Threads + Sync>(
     requires narrow { length space.old.prefix + 2 ≤ last_depth space.old → length (last_layer space.old.layers) ≤ space.old.width }
     ensures { HasBuilt (M.meaning (M.numbers model.now)) threshold space.old space.new }
 {
-    way.expand_pruned(space, model, threshold);
+    expander.expand_pruned(space, model, threshold);
     reduce(space, model);
 }
 
@@ -41,7 +41,7 @@ fn build<M: DpModel, R: Threads + Sync>(
     space: &mut Workspace,
     model: &M,
     threshold: Option<i64>,
-    way: &mut Way<'_, R>,
+    expander: &mut Expander<'_, R>,
 )
     requires under_way { IsUnderWay (M.meaning (M.numbers model.now)) space.old }
     requires started { IsStarted (M.meaning (M.numbers model.now)) space.old }
@@ -50,35 +50,35 @@ fn build<M: DpModel, R: Threads + Sync>(
     let first = space.first_depth();
     let vars = model.vars();
     'layers: for _ in first..vars {
-        build_layer(space, model, threshold, way);
+        build_layer(space, model, threshold, expander);
     }
 }
 
-/// Compiles the relaxed diagram as `compile` does, whatever the way is in which its layers are expanded.
+/// Compiles the relaxed diagram as `compile` does, and expands its layers by the expander.
 pub fn compile_with<M: DpModel, R: Threads + Sync>(
     space: &mut Workspace,
     model: &M,
     sub: &Sub,
     threshold: Option<i64>,
-    way: &mut Way<'_, R>,
+    expander: &mut Expander<'_, R>,
 )
     requires prepared { IsPreparedFor (M.meaning (M.numbers model.now)) space.old }
     requires own { IsOwn (M.meaning (M.numbers model.now)) sub.now.subproblem }
     ensures { IsMade (M.meaning (M.numbers model.now)) sub.now.subproblem.decisions threshold space.old space.new }
 {
     space.begin(model, sub);
-    build(space, model, threshold, way);
+    build(space, model, threshold, expander);
     set_all(space, model);
 }
 
-/// The relaxed diagram of a prefix with its own state and value, as `relaxed` gives it, whatever the way is in which its layers are
-/// expanded.
+/// The relaxed diagram of a prefix with its own state and value, as `relaxed` gives it. Its layers are expanded by the
+/// expander.
 pub fn relaxed_with<'w, M: DpModel, R: Threads + Sync>(
     space: &'w mut Workspace,
     model: &M,
     sub: &Sub,
     threshold: Option<i64>,
-    way: &mut Way<'_, R>,
+    expander: &mut Expander<'_, R>,
 ) -> Diagram<'w>
     requires prepared { IsPreparedFor (M.meaning (M.numbers model.now)) space.old }
     requires own { IsOwn (M.meaning (M.numbers model.now)) sub.now.subproblem }
@@ -87,6 +87,6 @@ pub fn relaxed_with<'w, M: DpModel, R: Threads + Sync>(
     ensures width { width_of result ≡ space.old.width }
     ensures diagram { IsDiagramOf (M.meaning (M.numbers model.now)) result }
 {
-    compile_with(space, model, sub, threshold, way);
+    compile_with(space, model, sub, threshold, expander);
     Diagram { space }
 }

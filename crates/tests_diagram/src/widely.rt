@@ -6,14 +6,14 @@ ghost use Rattle.layer_build.specs.Layers.{IsPreparedFor};
 
 use crate::relaxing::has_nodes;
 use crate::roots::{THREE_ITEMS, instance, root_of, space_for};
-use dp_model::{DpModel, Sub};
+use dp_model::{DpModel, MOST_LAYER_PARTS, Sub};
 use knapsack::Knapsack;
 use layer_build::Workspace;
 use relaxed_dd::{Diagram, relaxed, relaxed_with};
 use std::alloc::Global;
 use std::process::Abort;
 use std::thread::Threads;
-use wide_layers::{Way, candidates};
+use wide_layers::{Expander, candidates};
 
 /// Twelve items whose weights are the powers of two, each worth what it weighs, in a room for all of them: each choice of items
 /// leaves another room, and no choice is better than another.
@@ -41,13 +41,13 @@ fn is_same_in_parts<R: Abort + Threads + Sync, M: DpModel>(
 )
     requires { 0 < (M.meaning (M.numbers model.now)).vars }
 {
-    assert!(rt; parts > 0 && parts <= 64);
+    assert!(rt; parts > 0 && parts <= MOST_LAYER_PARTS);
     let root = root_of(rt, alloc, model);
     let mut plain_space = space_for(rt, alloc, model, WIDTH);
     let mut wide_space = space_for(rt, alloc, model, WIDTH);
-    let mut way = Way::in_parts(rt, alloc, parts);
+    let mut expander = Expander::in_parts(rt, alloc, parts);
     let plain = relaxed(&mut plain_space, model, &root, None);
-    let wide = relaxed_with(&mut wide_space, model, &root, None, &mut way);
+    let wide = relaxed_with(&mut wide_space, model, &root, None, &mut expander);
     assert_eq!(rt; first_of(rt, &wide, 8).0, 256);
     assert_eq!(rt; wide.first_reduced(), Some(9));
     assert_eq!(rt; plain.first_reduced(), Some(9));

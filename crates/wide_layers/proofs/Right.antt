@@ -1,17 +1,14 @@
 -- Which candidates are right.
-use Rattle.std.proofs.Common.{◌≡◌, ℕ, zero, suc, ◌+◌, ◌<◌, ◌≤◌, ℤ, Bool, true, false, cond, List, [], ◌∷◌, ◌++◌, length, map, Result, Ok, Err, OnOk, OnErr, refl, sym, ap, subst, ◌∙◌, arith}
+use Rattle.std.proofs.Common.{◌≡◌, ℕ, zero, suc, ◌+◌, ◌<◌, ◌≤◌, ℤ, Bool, true, false, cond, List, [], ◌∷◌, ◌++◌, map, Result, Ok, Err, OnOk, OnErr, refl, sym, ap, ◌∙◌, arith}
 use Rattle.std.proofs.lemmas.List.{map-append}
 use Rattle.std.proofs.lemmas.List.Elements.{filter-append}
-use Rattle.std.specs.List.{flat_map}
 use Rattle.dp_model.specs.Decisions.{below}
 use Rattle.dp_model.specs.Dp.{Dp}
 use Rattle.dp_model.specs.Lists.{Each}
 use Rattle.dp_model.proofs.Members.{Each-append}
 use Rattle.layer_candidates.specs.Extending.{all_allowed}
 use Rattle.layer_candidates.proofs.Extended.{allowed-skipped}
-use Rattle.layer_candidates.proofs.HeldRows.{each-here, each-left, each-right}
 use Rattle.wide_layers.specs.Candidates.{Candidate, candidate, candidates_by, candidates_of, candidates_from, IsMade, IsRight}
-use Rattle.wide_layers.specs.Pieces.{PieceView, AreRight, AllRight, piece_at, candidate_at}
 
 -- a decision that is allowed has a candidate, which is right
 pub by-allowed : (dp : Dp) (k i : ℕ) (s : List ℤ) (d : ℕ) → dp.allowed k s d ≡ true → candidates_by dp k i s (d ∷ []) ≡ candidate dp k i s d ∷ []
@@ -71,17 +68,3 @@ on-either (Err e) a b f g = g b
 pub ok-then : {T E : Type 0} (r : Result T E) {A B : Type 0} → OnOk r A → (A → B) → OnOk r B
 ok-then (Ok x) a f = f a
 ok-then (Err e) a f = tt
-
--- a candidate of a piece whose candidates are right
-pub right-at : (dp : Dp) (k : ℕ) (p : PieceView) (j : ℕ) → AreRight dp k p → j < length p.candidates → IsRight dp k (candidate_at p.candidates j)
-right-at dp k p j h less = each-here (IsRight dp k) p.candidates j _ h less
-
-each-of : {X Y : Type 0} (P : Y → Type 0) (f : X → List Y) (xs : List X) → Each P (flat_map f xs) → Each (λ x. Each P (f x)) xs
-each-of P f [] h = tt
-each-of P f (x ∷ xs) h = (each-left P (f x) (flat_map f xs) h, each-of P f xs (each-right P (f x) (flat_map f xs) h))
-
--- pieces that are, one after another, all candidates
-pub all-right : (dp : Dp) (k : ℕ) (state : ℕ → List ℤ) (from n : ℕ) (ps : List PieceView) → flat_map (λ (p : PieceView). p.candidates) ps ≡ candidates_from dp k state from n → AllRight dp k ps
-all-right dp k state from n ps e i j low less =
-    let each = each-of (IsRight dp k) (λ (p : PieceView). p.candidates) ps (subst (Each (IsRight dp k)) (sym e) (right-from dp k state from n)) in
-    right-at dp k (piece_at ps i) j (each-here (AreRight dp k) ps i _ each low) less

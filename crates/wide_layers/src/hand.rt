@@ -1,4 +1,4 @@
-//! Pieces at hand, whose candidates are looked for in their order.
+//! Pieces whose candidates are copied in their order.
 
 ghost use Rattle.std.specs.Prelude.{◌≡◌, ◌<◌, length, IsNone, IfSome};
 ghost use Rattle.wide_layers.specs.Pieces.{AreTold};
@@ -7,8 +7,8 @@ use crate::piece::Piece;
 use dp_model::Extended;
 use std::sync::atomic::{AtomicUsize, Ordering};
 
-/// Pieces, and where one looks next: the place of a piece, and that of a candidate in it. A candidate is compared before it is
-/// given, so where one looks decides what is found, and not what is answered.
+/// Pieces and a position in them: the place of a piece, and that of a candidate in it. A candidate is compared before it is given,
+/// so the position decides how fast the answer is, never what it is.
 #[derive(Drop)]
 pub struct Hand<'p> {
     pub(crate) pieces: &'p [Piece],
@@ -24,7 +24,7 @@ struct Place {
 }
 
 impl<'p> Hand<'p> {
-    /// One looks at the first candidate first.
+    /// The pieces, from their first candidate on.
     pub fn new(pieces: &'p [Piece]) -> Hand<'p>
         ensures { result.pieces.now ≡ pieces.now }
     {
@@ -35,7 +35,7 @@ impl<'p> Hand<'p> {
         }
     }
 
-    /// Where one looks next: pieces without a candidate left are stepped over.
+    /// The position of the next candidate. Pieces without a further candidate are passed over.
     #[inline(always)]
     fn next_place(&self) -> Place {
         let piece = self.piece.load(Ordering::SeqCst);
@@ -64,8 +64,8 @@ impl<'p> Hand<'p> {
         }
     }
 
-    /// What the next candidate says of a decision from a state, where it is the one from this state by this decision; its own state
-    /// is written to `out`.
+    /// The gain and the rank that the next candidate has, with its state in `out`; `None` if it is not the one of this state and
+    /// this decision.
     #[inline(always)]
     pub fn recall(&self, s: &[i64], d: u32, out: &mut [i64]) -> Option<Extended>
         ensures none { IsNone result → out.new ≡ out.old }

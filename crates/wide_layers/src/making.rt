@@ -1,16 +1,13 @@
-//! The candidates of a layer, or of some of its nodes, and a layer that is made from candidates.
+//! The candidates of a layer, or of some of its nodes.
 
 ghost use Rattle.std.specs.Prelude.{◌≡◌, ◌+◌, ◌<◌, ◌≤◌, ◌++◌, [], ◌∷◌, length, IfOk, OnOk};
-ghost use Rattle.std.specs.List.{flat_map};
 ghost use Rattle.dp_model.specs.Gaps.{IsStateOf};
-ghost use Rattle.dp_laws.specs.Rules.Compiling.{expand};
-ghost use Rattle.layer_build.specs.Layers.{last_depth, last_layer, expand_last};
+ghost use Rattle.layer_build.specs.Layers.{last_depth, last_layer};
 ghost use Rattle.layer_build.specs.UnderWay.{IsUnderWay};
 ghost use Rattle.wide_layers.specs.Candidates.{state_at, candidates_by, candidates_of, candidates_between};
 ghost use Rattle.wide_layers.specs.Pieces.{AreRight};
 
 use crate::piece::Piece;
-use crate::recalled::Recalled;
 use dp_model::{DpModel, OutOfMemory};
 use layer_build::Workspace;
 use std::alloc::Global;
@@ -95,7 +92,7 @@ fn parent_at<'s, M: DpModel>(space: &'s Workspace, model: &M, i: usize) -> Paren
 
 /// The piece gets the candidates of the nodes of the last layer from the place `from` to the one before `to`, by earlier parent and
 /// then by lesser decision, in place of those that it had. For want of memory it gets the first ones alone.
-pub fn make<M: DpModel>(
+pub(crate) fn make<M: DpModel>(
     alloc: Global,
     space: &Workspace,
     model: &M,
@@ -138,20 +135,4 @@ pub fn candidates<M: DpModel>(
     let mut piece = Piece::new(alloc);
     make(alloc, space, model, from, to, &mut piece)?;
     Ok(piece)
-}
-
-/// Expands the last layer, as `Workspace::expand_layer` does, where the pieces, one after another, are all its candidates.
-pub fn expand_from<M: DpModel>(space: &mut Workspace, model: &M, pieces: &[Piece])
-    requires under_way { IsUnderWay (M.meaning (M.numbers model.now)) space.old }
-    requires below { last_depth space.old < (M.meaning (M.numbers model.now)).vars }
-    requires narrow { length space.old.prefix + 2 ≤ last_depth space.old → length (last_layer space.old.layers) ≤ space.old.width }
-    requires pieces { flat_map (λ p. p.candidates) pieces.now ≡ candidates_between (M.meaning (M.numbers model.now)) (last_depth space.old) (last_layer space.old.layers) 0 (length (last_layer space.old.layers)) }
-    ensures layers { space.new ≡ record space.old {
-      layers = expand_last (expand (M.meaning (M.numbers model.now)) (last_depth space.old)) space.old.layers;
-      told = space.new.told;
-    } }
-    ensures under_way { IsUnderWay (M.meaning (M.numbers model.now)) space.new }
-{
-    let depth = space.last_depth();
-    space.expand_layer(&Recalled::new(model, depth, pieces));
 }

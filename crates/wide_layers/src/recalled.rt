@@ -5,8 +5,8 @@ use crate::hand::Hand;
 use crate::piece::Piece;
 use dp_model::{DpModel, Extended};
 
-/// A model that has the candidates for the layer below a depth at hand. It answers as the model does that it stands on; where the
-/// state and the decision are those of a candidate that is found where one looks next, its `extend` copies that one.
+/// A model that copies candidates which were made before. It answers as the model that it stands on; for the layer below `depth`
+/// its `extend` first compares the next candidate, and copies it if the state and the decision are the same.
 #[derive(Drop)]
 pub struct Recalled<'p, M: DpModel> {
     pub(crate) model: &'p M,

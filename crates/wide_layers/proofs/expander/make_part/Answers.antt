@@ -1,7 +1,7 @@
 use Rattle.std.proofs.Common.{List, length, ap, arith}
 use Rattle.dp_laws.specs.Diagrams.Nodes.{DdNode}
 use Rattle.wide_layers.proofs.Lasts.{layer-last}
-use Rattle.wide_layers.proofs.way.make_part.Goals as goal
+use Rattle.wide_layers.proofs.expander.make_part.Goals as goal
 
 pub make-requires-clause-within : goal.make-requires-clause-within
 make-requires-clause-within g c κs within =

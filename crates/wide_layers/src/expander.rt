@@ -1,6 +1,7 @@
 //! How a layer is expanded.
 
 ghost use Rattle.std.specs.Prelude.{◌≡◌, ◌+◌, ◌<◌, ◌≤◌, length, take};
+ghost use Rattle.dp_model.specs.declared.limits.TheConstants.{MOST_LAYER_PARTS};
 ghost use Rattle.dp_laws.specs.Rules.Compiling.{expand, prune};
 ghost use Rattle.layer_build.specs.Layers.{last_depth, last_layer, expand_last};
 ghost use Rattle.layer_build.specs.UnderWay.{IsUnderWay};
@@ -21,20 +22,20 @@ const FEWEST_NODES: usize = 256;
 
 /// Pieces in which the candidates of a layer are made, each by a thread of its own where one can be made.
 #[derive(Drop)]
-pub struct Wide<'r, R: Threads + Sync> {
+pub struct ParallelExpander<'r, R: Threads + Sync> {
     rt: &'r R,
     alloc: Global,
     parts: usize,
     pieces: Vec<Piece>,
 }
 
-/// How a layer is expanded.
+/// What expands the layers of a diagram, one after another.
 #[derive(Drop)]
-pub enum Way<'r, R: Threads + Sync> {
+pub enum Expander<'r, R: Threads + Sync> {
     /// By one thread.
     Plain,
-    /// In pieces.
-    Wide(Wide<'r, R>),
+    /// By several threads, in pieces.
+    Parallel(ParallelExpander<'r, R>),
 }
 
 /// Where the part with this number begins, of parts of this many nodes.
@@ -71,13 +72,13 @@ fn make_part<M: DpModel>(
     let _ = make(alloc, space, model, from, to, piece);
 }
 
-impl<'r, R: Threads + Sync> Wide<'r, R> {
-    /// A way with `parts` parts, from 1 to 64. It takes no memory.
-    pub fn new(rt: &'r R, alloc: Global, parts: u32) -> Wide<'r, R>
+impl<'r, R: Threads + Sync> ParallelExpander<'r, R> {
+    /// An expander in `parts` parts, from 1 to `MOST_LAYER_PARTS`. It takes no memory.
+    fn new(rt: &'r R, alloc: Global, parts: u32) -> ParallelExpander<'r, R>
         requires some { 0 < parts }
-        requires few { parts ≤ 64 }
+        requires few { parts ≤ MOST_LAYER_PARTS }
     {
-        Wide {
+        ParallelExpander {
             rt,
             alloc,
             parts: parts as usize,
@@ -141,37 +142,16 @@ fn make_parts<R: Threads + Sync, M: DpModel>(
     );
 }
 
-impl<'r, R: Threads + Sync> Way<'r, R> {
-    /// The way in this many parts, from 1 to 64; with one it is the plain one. It takes no memory.
-    pub fn in_parts(rt: &'r R, alloc: Global, parts: u32) -> Way<'r, R>
+impl<'r, R: Threads + Sync> Expander<'r, R> {
+    /// The expander in this many parts, from 1 to `MOST_LAYER_PARTS`; with one part it is the plain one. It takes no memory.
+    pub fn in_parts(rt: &'r R, alloc: Global, parts: u32) -> Expander<'r, R>
         requires some { 0 < parts }
-        requires few { parts ≤ 64 }
+        requires few { parts ≤ MOST_LAYER_PARTS }
     {
         if parts == 1 {
-            Way::Plain
+            Expander::Plain
         } else {
-            Way::Wide(Wide::new(rt, alloc, parts))
-        }
-    }
-
-    /// Expands the last layer, as `Workspace::expand_layer` does.
-    pub fn expand<M: DpModel>(&mut self, space: &mut Workspace, model: &M)
-        requires under_way { IsUnderWay (M.meaning (M.numbers model.now)) space.old }
-        requires below { last_depth space.old < (M.meaning (M.numbers model.now)).vars }
-        requires narrow { length space.old.prefix + 2 ≤ last_depth space.old → length (last_layer space.old.layers) ≤ space.old.width }
-        ensures layers { space.new ≡ record space.old {
-          layers = expand_last (expand (M.meaning (M.numbers model.now)) (last_depth space.old)) space.old.layers;
-          told = space.new.told;
-        } }
-        ensures under_way { IsUnderWay (M.meaning (M.numbers model.now)) space.new }
-    {
-        match self {
-            Way::Plain => space.expand_layer(model),
-            Way::Wide(wide) => {
-                let depth = space.last_depth();
-                let count = wide.make(space, model);
-                space.expand_layer(&Recalled::new(model, depth, &wide.pieces[..count]));
-            }
+            Expander::Parallel(ParallelExpander::new(rt, alloc, parts))
         }
     }
 
@@ -192,11 +172,11 @@ impl<'r, R: Threads + Sync> Way<'r, R> {
         ensures under_way { IsUnderWay (M.meaning (M.numbers model.now)) space.new }
     {
         match self {
-            Way::Plain => space.expand_pruned(model, threshold),
-            Way::Wide(wide) => {
+            Expander::Plain => space.expand_pruned(model, threshold),
+            Expander::Parallel(parallel) => {
                 let depth = space.last_depth();
-                let count = wide.make(space, model);
-                let recalled = Recalled::new(model, depth, &wide.pieces[..count]);
+                let count = parallel.make(space, model);
+                let recalled = Recalled::new(model, depth, &parallel.pieces[..count]);
                 space.expand_pruned(&recalled, threshold);
             }
         }
