@@ -6,7 +6,7 @@ use crate::starting::empty_slots;
 use dp_model::OutOfMemory;
 use std::alloc::Global;
 
-/// What a board has beside its start: two rows in which decisions are walked, and a slot for each worker.
+/// What a board has besides its start: two rows in which decisions are walked, and a slot for each worker.
 #[derive(Drop)]
 pub struct Blank {
     /// A row that is written over.

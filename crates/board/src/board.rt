@@ -45,7 +45,7 @@ use std::alloc::Global;
 use std::marker::Model;
 use std::sync::Arc;
 
-/// If the next ticket is greater than this, the budget counts as taken up. So tickets never run out. It is 2^64 - 2^29.
+/// If the next ticket is greater than this, `take` answers as if the budget were used up, so tickets never run out. It is 2^64 - 2^29.
 const GREATEST_TICKET: u64 = 0xFFFF_FFFF_E000_0000;
 
 /// The board of a search: the incumbent, the open subproblems, what each worker has out, and the states that were reached.
@@ -201,7 +201,7 @@ impl<M: DpModel> Board<M> {
     /// 1. Nothing is open or out: `Finished`.
     /// 2. A cause is held: `Halted` with the cause.
     /// 3. Nothing is open: `WaitForOthers`.
-    /// 4. The budget is taken up: `Halted(Budget)`.
+    /// 4. The budget is used up: `Halted(Budget)`.
     /// 5. Otherwise `Sub`: the open subproblem with the greatest bound, then the greatest value, then the least ticket goes to the
     ///    worker's slot and is copied to `into`.
     ///
@@ -432,17 +432,6 @@ impl<M: DpModel> Board<M> {
         ensures room { self.new.room ≡ self.old.room }
     {
         self.cause = cause_after(self.cause, cause);
-    }
-
-    /// The subproblem in the worker's slot, or `None` exactly if the slot is empty.
-    pub fn slot(&self, who: u32) -> Option<&Sub>
-        requires { who < length self.now.board.slots }
-        ensures { option_map (λ s. s.now.subproblem) result ≡ option_map (λ o. o.subproblem) (slot_at self.now.board who) }
-    {
-        match &self.slots[who as usize] {
-            Some(one) => Some(&one.sub),
-            None => None,
-        }
     }
 
     /// The ticket of the subproblem in the worker's slot, or `None` exactly if the slot is empty.

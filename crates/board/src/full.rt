@@ -2,11 +2,10 @@
 
 ghost use Rattle.std.specs.Prelude.{◌≡◌, length};
 ghost use Rattle.board_laws.specs.Board.{full_slots};
-ghost use Rattle.fringe.specs.Bounds.{raised};
 ghost use Rattle.board_laws.specs.Bound.{raised_by};
 
 use crate::checked_out::CheckedOut;
-use fringe::Fringe;
+use fringe::{Fringe, raised};
 
 /// How many slots are full.
 pub fn count_full(slots: &[Option<CheckedOut>]) -> usize
@@ -19,16 +18,6 @@ pub fn count_full(slots: &[Option<CheckedOut>]) -> usize
         }
     }
     count
-}
-
-/// The greater of the two; `None` is less than every number.
-fn raised(most: Option<i64>, bound: i64) -> Option<i64>
-    ensures { result ≡ raised most bound }
-{
-    match most {
-        Some(most) if most >= bound => Some(most),
-        _ => Some(bound),
-    }
 }
 
 /// The greatest of `most` and the bounds of what the slots have; `None` is less than every number.

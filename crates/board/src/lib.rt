@@ -2,16 +2,22 @@
 //! the counts, the settings and the cause of a halt. A search consists of five steps on it: take, improve, finish, give back
 //! and halt.
 //!
-//! It stands on `dp_model`, on the data and the laws of `board_laws`, on `fringe` for the open subproblems, on
+//! The crate stands on `dp_model`, on the data and the laws of `board_laws`, on `fringe` for the open subproblems, on
 //! `dominance_table` for the states that were reached, and on `turn`, by which workers share a board: a move in a turn is one
 //! step of a worker's run, or none.
 //!
 //! Each call that changes a board is one step, and its contract is an equation on the board as data. The reach is the
 //! incumbent's value plus the distance of the settings. A subproblem is out while a worker's slot has it. Every step keeps a
-//! board good: each feasible solution is at most the reach or matched by a prefix that is open or out, every bound is held,
-//! every entry of the table has its floor, no such prefix begins with another, no two open subproblems have one depth and
-//! state, and the counts are bounded by the number of prefixes. So if nothing is open or out, no feasible solution is above
-//! the reach.
+//! board good. On a good board:
+//!
+//! - Each feasible solution is at most the reach, or matched by a prefix that is open or out.
+//! - No completion of such a prefix exceeds both its bound and the reach.
+//! - Whatever the state of a table entry can lead to is at most the reach, or matched below a prefix that is open or out. So pruning by
+//!   the entry is sound.
+//! - No prefix that is open or out begins with another, and no two open subproblems have one depth and state.
+//! - The counts are bounded by the number of prefixes.
+//!
+//! So if nothing is open or out, no feasible solution is above the reach.
 //!
 //! ```
 //! let mut board = Board::begin(alloc, model, settings)?;

@@ -23,7 +23,7 @@ board = record {
   incumbent = Some (record { decisions = []; value = pos 0 });
   open_ones = record { ticket = 3; subproblem = record { decisions = 0 ∷ []; row = pos 5 ∷ []; value = pos 7; bound = pos 9 } } ∷ [];
   slots = None ∷ [];
-  entries = record { depth = 1; bucket = 0; row = pos 8 ∷ []; rank = None; value = pos 4; ticket = 2 } ∷ [];
+  entries = record { depth = 1; bucket = 0; row = pos 8 ∷ []; rank = pos 8; value = pos 4; ticket = 2 } ∷ [];
   settings = record { workers = 1; budget = 100; table_limit = 2; width = 3; within = pos 0 };
   taken = 1;
   finished = 0;
@@ -41,5 +41,5 @@ tickets-noted : map (λ (e : TableEntry). e.ticket) (finished_by three_items boa
 tickets-noted = refl
 
 -- a subproblem that has entered is dominated by the entry that it left: so neither Take nor GiveBack may ask the table, and no child may be the slot's own prefix
-own-entry-dominates : fate_of three_items None [] (record { depth = 1; bucket = 0; row = pos 10 ∷ []; rank = None; value = pos 0; ticket = 1 } ∷ []) 2 (record { decisions = 0 ∷ []; row = pos 10 ∷ []; value = pos 0; bound = pos 9 }) ≡ Dominated 1
+own-entry-dominates : fate_of three_items None [] (record { depth = 1; bucket = 0; row = pos 10 ∷ []; rank = pos 10; value = pos 0; ticket = 1 } ∷ []) 2 (record { decisions = 0 ∷ []; row = pos 10 ∷ []; value = pos 0; bound = pos 9 }) ≡ Dominated 1
 own-entry-dominates = refl

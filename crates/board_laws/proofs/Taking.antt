@@ -105,7 +105,7 @@ take-good dp starts b who o at from h =
 
 -- Take, by its answer.
 
--- where Take hands a subproblem out, something is open and the budget is not taken up
+-- where Take hands a subproblem out, something is open and the budget is not used up
 pub record Hands (b : BoardState) : Type 0 where
   pub some : 0 < length b.open_ones
   pub left : is_budget_up b ≡ false

@@ -12,7 +12,6 @@ use Rattle.dp_model.specs.Subproblem.{IsOwn}
 use Rattle.dp_laws.specs.Pairs.{EachTwo}
 use Rattle.fringe.specs.Fringe.{AreDifferent}
 use Rattle.fringe.specs.Tickets.{Ticketed, IsEarlier}
-use Rattle.dominance_table.specs.Dominator.{IsRankOf}
 use Rattle.dominance_table.specs.Entries.{TableEntry}
 use Rattle.board_laws.specs.declared.cause.Cause.TheVariants.{Budget}
 use Rattle.board_laws.specs.Board.{AreSettings, BoardState, reach, full_slots, frontier, prefixes}
@@ -30,13 +29,13 @@ pub record TicketsHold (next : ℕ) (os : List Ticketed) : Type 0 where
   pub distinct : EachTwo (λ a b. a.ticket ≢ b.ticket) os
   pub given : Each (λ o. o.ticket < next) os
 
--- an entry: its row is a state of its depth, which has variables to decide, its bucket and its rank, where it was told, are those of
--- the state, and its ticket was given out
+-- an entry: its row is a state of its depth, which has variables to decide, its bucket and its rank are those of the state, and its
+-- ticket was given out
 pub record IsEntry (dp : Dp) (next : ℕ) (e : TableEntry) : Type 0 where
   pub shorter : e.depth < dp.vars
   pub state : IsStateOf dp e.depth e.row
   pub bucket : e.bucket ≡ dp.bucket e.depth e.row
-  pub rank : IsRankOf dp e.depth e.row e.rank
+  pub rank : e.rank ≡ dp.rank e.depth e.row
   pub given : e.ticket < next
 
 -- what every board keeps, wherever it comes from: the incumbent is feasible, each of the frontier is a prefix of its own whose bound is

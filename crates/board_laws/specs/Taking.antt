@@ -14,7 +14,7 @@ abbrev pub HasFirst : List Ticketed → Option Ticketed → Type 0
 HasFirst os None = ⊥
 HasFirst os (Some o) = IsFirstTaken os o
 
--- the budget is taken up, or tickets come near to their end
+-- the budget is used up, or tickets come near to their end
 abbrev pub is_budget_up : BoardState → Bool
 is_budget_up b = nat_eq b.taken b.settings.budget || nat_lt (2 ^ 64 - 2 ^ 29) b.next_ticket
 

@@ -1,7 +1,7 @@
 /// Why a search is halted.
 #[derive(Clone, Copy, Debug, PartialEq, Eq, Hash)]
 pub enum Cause {
-    /// The budget of subproblems is taken up. A board never keeps this cause.
+    /// The budget of subproblems is used up. `take` answers this; a board never stores it.
     Budget,
     /// Memory was refused.
     Memory,

@@ -1,4 +1,4 @@
-/// What became of a solution that was offered.
+/// The answer to an offered solution.
 #[derive(Clone, Copy, Debug, PartialEq, Eq, Hash)]
 pub enum Improved {
     /// It is the incumbent now.

@@ -9,7 +9,7 @@ pub fn first_boards_are_good()
     ensures { (dp : Dp) → IsLawful dp → FirstBoardsAreGood dp }
 {}
 
-/// A restored board keeps what every board keeps, and is good where what it is restored from is a sound list.
+/// A restored board keeps what every board keeps, and is good if it is restored from a sound list.
 pub fn restored_boards_keep()
     ensures { (dp : Dp) → IsLawful dp → RestoredBoardsKeep dp }
 {}
@@ -29,7 +29,7 @@ pub fn finish_keeps()
     ensures { (dp : Dp) → IsLawful dp → FinishKeeps dp }
 {}
 
-/// GiveBack keeps what every board keeps, and a good board where a cause is held.
+/// GiveBack keeps what every board keeps, and a good board if a cause is held.
 pub fn give_back_keeps()
     ensures { (dp : Dp) → IsLawful dp → GiveBackKeeps dp }
 {}

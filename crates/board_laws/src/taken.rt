@@ -1,11 +1,11 @@
 use crate::cause::Cause;
 
-/// What a worker is told that asks for a subproblem.
+/// The answer to a worker that asks for a subproblem.
 #[derive(Clone, Copy, Debug, PartialEq, Eq, Hash)]
 pub enum Taken {
-    /// It got one.
+    /// The worker got one.
     Sub,
-    /// Nothing is open, but others have subproblems out.
+    /// Nothing is open, but other workers have subproblems out.
     WaitForOthers,
     /// Nothing is open or out.
     Finished,

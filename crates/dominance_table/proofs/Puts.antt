@@ -1,5 +1,5 @@
 -- A table at a put.
-use Rattle.std.proofs.Common.{◌≡◌, ℕ, zero, suc, ◌+◌, ◌-◌, ◌*◌, ◌<◌, ◌≤◌, ◌⊎◌, inl, inr, ℤ, pos, List, [], ◌∷◌, ◌++◌, length, true, false, cond, refl, sym, ◌∙◌, ap, ap₂, subst, arith, add-one, None, Result, Ok, Err, IsOk, is_ok}
+use Rattle.std.proofs.Common.{◌≡◌, ℕ, zero, suc, ◌+◌, ◌-◌, ◌*◌, ◌<◌, ◌≤◌, ◌⊎◌, inl, inr, ℤ, pos, List, [], ◌∷◌, ◌++◌, length, true, false, cond, refl, sym, ◌∙◌, ap, ap₂, subst, arith, add-one, Result, Ok, Err, IsOk, is_ok}
 use Rattle.std.proofs.Math.Nat.{suc-mul, add-mul}
 use Rattle.std.proofs.lemmas.Bool.{eq-eqb, ne_eqb}
 use Rattle.std.proofs.lemmas.Nat.{mul-le}
@@ -89,10 +89,10 @@ row_put (Err e) words cells capacity now old row items may fits long is count = 
 
 -- the entry at a place, with one more at the end
 entry_before : (es : List Entry) (e : Entry) (i : ℕ) → i < length es → entry_at (es ++ e ∷ []) i ≡ entry_at es i
-entry_before es e i less = get_or_append_left es (e ∷ []) (record { depth = 0; bucket = 0; rank = None; value = pos 0; ticket = 0 }) i less
+entry_before es e i less = get_or_append_left es (e ∷ []) (record { depth = 0; bucket = 0; rank = pos 0; value = pos 0; ticket = 0 }) i less
 
 entry_last : (es : List Entry) (e : Entry) (i : ℕ) → i ≡ length es → entry_at (es ++ e ∷ []) i ≡ e
-entry_last es e i here = ap (entry_at (es ++ e ∷ [])) here ∙ get_or-append_seam es e [] (record { depth = 0; bucket = 0; rank = None; value = pos 0; ticket = 0 })
+entry_last es e i here = ap (entry_at (es ++ e ∷ [])) here ∙ get_or-append_seam es e [] (record { depth = 0; bucket = 0; rank = pos 0; value = pos 0; ticket = 0 })
 
 before_or_last : (es : List Entry) (e : Entry) (i : ℕ) → i < length (es ++ e ∷ []) → (i < length es) ⊎ (i ≡ length es)
 before_or_last es e i less = let sum = length-append es (e ∷ []) in grind arith

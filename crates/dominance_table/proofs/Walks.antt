@@ -15,7 +15,7 @@ use Rattle.dominance_table.proofs.Puts.{start_is}
 use Rattle.dominance_table.proofs.Rows.{least-append, with_rows_at, length_with_rows}
 
 no_entry : TableEntry
-no_entry = record { depth = 0; bucket = 0; row = []; rank = None; value = pos 0; ticket = 0 }
+no_entry = record { depth = 0; bucket = 0; row = []; rank = pos 0; value = pos 0; ticket = 0 }
 
 -- at a place of a list
 each_at : {X : Type 0} (P : X → Type 0) (xs : List X) (i : ℕ) (d : X) → i < length xs → Each P xs → P (get_or xs i d)
@@ -66,7 +66,7 @@ module _ (dp : Dp) (depth : ℕ) (row : List ℤ) (worth : ℤ) where
         ap (λ l. dominator dp l depth row worth) (one-more at less) ∙ (dominator-append (take at seen) (with_row (entry_at entries at) (row_at cells words at) ∷ [])
         ∙ (ap (λ o. lesser (dominator dp (take at seen) depth row worth) o) (alone (with_row (entry_at entries at) (row_at cells words at)) false is) ∙ none-left (dominator dp (take at seen) depth row worth)))
 
-    -- a row of the depth is a state, and a rank that was told is the state's
+    -- a row of the depth is a state, and its rank is the state's
     pub state_at : (at : ℕ) → at < length entries → AreStates dp depth seen → (entry_at entries at).depth ≡ depth → IsReached dp depth (row_at cells words at) (entry_at entries at).rank
     state_at at less states =
         let here = each_at (λ (e : TableEntry). e.depth ≡ depth → IsReached dp depth e.row e.rank) seen at no_entry (subst (λ n. at < n) (sym (length_with_rows words entries cells)) less) states in

@@ -25,20 +25,15 @@ entry_dominates dp depth row value e =
 abbrev pub dominator : Dp → List TableEntry → ℕ → List ℤ → ℤ → Option ℕ
 dominator dp entries depth row value = least (map (λ e. e.ticket) (filter (entry_dominates dp depth row value) entries))
 
--- the entry of a state that was reached with the value, with its bucket and its rank
+-- the entry of a state that was reached with the value
 abbrev pub entry_of_state : Dp → ℕ → List ℤ → ℤ → ℕ → TableEntry
-entry_of_state dp depth row value ticket = record { depth = depth; bucket = dp.bucket depth row; row = row; rank = Some (dp.rank depth row); value = value; ticket = ticket }
+entry_of_state dp depth row value ticket = record { depth = depth; bucket = dp.bucket depth row; row = row; rank = dp.rank depth row; value = value; ticket = ticket }
 
--- the rank is the state's, where it was told
-abbrev pub IsRankOf : Dp → ℕ → List ℤ → Option ℤ → Type 0
-IsRankOf dp depth row None = Unit {0}
-IsRankOf dp depth row (Some rank) = rank ≡ dp.rank depth row
-
--- the row is a state of the depth, and the rank is the state's, where it was told
-pub record IsReached (dp : Dp) (depth : ℕ) (row : List ℤ) (rank : Option ℤ) : Type 0 where
+-- the row is a state of the depth, and the rank is the state's
+pub record IsReached (dp : Dp) (depth : ℕ) (row : List ℤ) (rank : ℤ) : Type 0 where
   pub state : IsStateOf dp depth row
-  pub rank_is : IsRankOf dp depth row rank
+  pub rank_is : rank ≡ dp.rank depth row
 
--- the rows of all entries of the depth are states of that layer, and their ranks those of the states, where they were told
+-- the rows of all entries of the depth are states of that layer, and their ranks are those of the states
 abbrev pub AreStates : Dp → ℕ → List TableEntry → Type 0
 AreStates dp depth entries = Each (λ e. e.depth ≡ depth → IsReached dp depth e.row e.rank) entries

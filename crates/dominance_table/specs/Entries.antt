@@ -1,18 +1,17 @@
 -- The entries of a table, and the table as its callers see it.
-use Rattle.std.specs.Prelude.{◌≡◌, ℕ, ◌+◌, ◌-◌, ◌*◌, ◌<◌, ◌≤◌, ℤ, pos, Bool, cond, nat_eq, List, [], ◌∷◌, ◌++◌, length, take, drop, slice_index_or, Option, None}
+use Rattle.std.specs.Prelude.{◌≡◌, ℕ, ◌+◌, ◌-◌, ◌*◌, ◌<◌, ◌≤◌, ℤ, pos, Bool, cond, nat_eq, List, [], ◌∷◌, ◌++◌, length, take, drop, slice_index_or}
 use Rattle.dominance_table.specs.declared.entry.Entry.{Entry}
 use Rattle.dominance_table.specs.declared.put.Put.{Put}
 use Rattle.dominance_table.specs.declared.put.Put.TheVariants.{Yes, AtLimit}
 use Rattle.dominance_table.specs.declared.groups.Run.{Run}
 use Rattle.dominance_table.specs.Groups.{fold_at, depth_at, bucket_at, end_at, start_at, group_fold}
 
--- a state that was reached: its depth, its bucket, its row, the rank of the row, where it was told, the value that it was reached
--- with, and its ticket
+-- a state that was reached: its depth, its bucket, its row, its rank, the value that it was reached with, and its ticket
 pub record TableEntry : Type 0 where
   pub depth : ℕ
   pub bucket : ℕ
   pub row : List ℤ
-  pub rank : Option ℤ
+  pub rank : ℤ
   pub value : ℤ
   pub ticket : ℕ
 
@@ -55,7 +54,7 @@ pub record HasRoom (words limit room len capacity cells cells_capacity : ℕ) : 
 
 -- the entry at a place, and the cells of its row
 abbrev pub entry_at : List Entry → ℕ → Entry
-entry_at entries i = slice_index_or entries i (record { depth = 0; bucket = 0; rank = None; value = pos 0; ticket = 0 })
+entry_at entries i = slice_index_or entries i (record { depth = 0; bucket = 0; rank = pos 0; value = pos 0; ticket = 0 })
 
 -- the row at a place
 abbrev pub row_at : List ℤ → ℕ → ℕ → List ℤ

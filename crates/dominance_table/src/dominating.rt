@@ -11,23 +11,31 @@ use crate::entry::Entry;
 use crate::groups::{Groups, Run, group_fold};
 use dp_model::DpModel;
 
-/// The entries of a table with their rows, which lie one after another in `cells`. `rising` only where no ticket is less than one
-/// before it.
+/// The entries of a table with their rows.
 #[derive(Drop)]
 pub struct Seen<'a> {
+    /// The entries in the order of their puts.
     pub entries: &'a [Entry],
+    /// The rows of the entries, one after another.
     pub cells: &'a [i64],
+    /// How many cells a row has.
     pub words: usize,
+    /// True only if no ticket is less than an earlier one.
     pub rising: bool,
 }
 
-/// A new state: its depth, its bucket, its row with its rank, and the value that it is reached with.
+/// A new state.
 #[derive(Drop)]
 pub struct Sought<'a> {
+    /// Its depth.
     pub depth: usize,
+    /// Its bucket in the model.
     pub bucket: u64,
+    /// Its row.
     pub row: &'a [i64],
+    /// Its rank in the model.
     pub rank: i64,
+    /// The value that it is reached with.
     pub value: i64,
 }
 
@@ -50,18 +58,7 @@ fn lesser(least: Option<u64>, ticket: u64) -> Option<u64>
     }
 }
 
-/// The rank of the state, which is asked of the model where it was not told.
-fn rank_of<M: DpModel>(model: &M, depth: usize, row: &[i64], told: Option<i64>) -> i64
-    requires { IsReached (M.meaning (M.numbers model.now)) depth row.now told }
-    ensures { result ≡ (M.meaning (M.numbers model.now)).rank depth row.now }
-{
-    match told {
-        Some(rank) => rank,
-        None => model.rank(depth, row),
-    }
-}
-
-/// By how much the one value is above the other, or the greatest number where it is more.
+/// How much the first value exceeds the second, at most `i64::MAX`.
 fn excess(above: i64, value: i64) -> i64
     requires { value ≤ℤ above }
     ensures { result ≡ saturate_signed w64 (above -ℤ value) }
@@ -69,7 +66,7 @@ fn excess(above: i64, value: i64) -> i64
     above.abs_diff(value).min(i64::MAX.cast_unsigned()) as i64
 }
 
-/// Whether the gap of the entry's row to the new state lifts that state's value to at most the entry's.
+/// Whether the sum of the new value and the gap from the entry's row to the new state is at most the entry's value.
 fn covers<M: DpModel>(model: &M, entry: &Entry, row: &[i64], sought: &Sought) -> bool
     requires state { IsStateOf (M.meaning (M.numbers model.now)) sought.now.depth sought.now.row.now }
     requires rank { sought.now.rank ≡ (M.meaning (M.numbers model.now)).rank sought.now.depth sought.now.row.now }
@@ -78,14 +75,13 @@ fn covers<M: DpModel>(model: &M, entry: &Entry, row: &[i64], sought: &Sought) ->
     ensures { result ≡ covers_at ((M.meaning (M.numbers model.now)).gap sought.now.depth row.now sought.now.row.now) entry.now.value sought.now.value }
 {
     let most = excess(entry.value, sought.value);
-    let rank = rank_of(model, sought.depth, row, entry.rank);
     model
-        .covers_within(sought.depth, row, rank, sought.row, sought.rank, most)
+        .covers_within(sought.depth, row, entry.rank, sought.row, sought.rank, most)
         .is_some()
 }
 
-/// Whether the entry, which has this row and is of the depth and bucket, dominates. A gap is no less than zero, so the values alone
-/// often tell, and they are compared first.
+/// Whether the entry with this row dominates. It has the depth and the bucket of the new state. A gap is no less than zero, so the
+/// values are compared first, which often decides.
 fn dominates<M: DpModel>(model: &M, entry: &Entry, row: &[i64], sought: &Sought) -> bool
     requires state { IsStateOf (M.meaning (M.numbers model.now)) sought.now.depth sought.now.row.now }
     requires rank { sought.now.rank ≡ (M.meaning (M.numbers model.now)).rank sought.now.depth sought.now.row.now }
@@ -100,8 +96,8 @@ fn dominates<M: DpModel>(model: &M, entry: &Entry, row: &[i64], sought: &Sought)
     covers(model, entry, row, sought)
 }
 
-/// The lesser of `least` and the least ticket of the entries from the place `from` to before `end` that dominate, all of the depth
-/// and bucket. Where tickets rise, the first one ends the search.
+/// The lesser of `least` and the least ticket of the dominating entries from the place `from` to before `end`. All entries there have the
+/// depth and the bucket. If tickets rise, the first dominating entry ends the search.
 fn least_in_run<M: DpModel>(
     model: &M,
     seen: &Seen,
@@ -137,7 +133,7 @@ fn least_in_run<M: DpModel>(
     least
 }
 
-/// The place of the first entry of the run at a place, where the run before ends.
+/// The place of the first entry of the run at a place. It is the end of the run before.
 fn start_of(runs: &[Run], at: usize) -> usize
     requires { at ≤ length runs.now }
     ensures { result ≡ start_at runs.now at }
@@ -148,7 +144,7 @@ fn start_of(runs: &[Run], at: usize) -> usize
     runs[at - 1].end
 }
 
-/// The least ticket of the entries that dominate. Where tickets rise, the search ends at the first one.
+/// The least ticket of the entries that dominate. If tickets rise, the first dominating entry ends the search.
 #[inline(never)]
 pub fn least_dominator<M: DpModel>(
     model: &M,

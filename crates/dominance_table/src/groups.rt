@@ -1,4 +1,4 @@
-//! Which entries were put under a fold, in the order of their puts: runs of them, in chains.
+//! The entries under each fold of depth and bucket, as chains of runs.
 
 ghost use Rattle.std.specs.Prelude.{◌≡◌, ◌≢◌, ℕ, ◌+◌, ◌<◌, ◌≤◌, [], length, max, nat_eq, true, false, None, Some, IfSome, OnOk, OnErr, vec_len, vec_capacity};
 ghost use Rattle.indexmap.specs.IndexMap.{get, spare};
@@ -9,28 +9,39 @@ use indexmap::IndexMap;
 use std::alloc::Global;
 use std::marker::Model;
 
-/// Entries of one depth and one bucket that were put one after another, up to before the place `end`, with the fold that they
-/// were put under, and the place of the next run of that fold, or `usize::MAX`.
+/// The place of no run. It is past all runs, so one comparison with their number tests a place for it.
+const NO_RUN: usize = usize::MAX;
+
+/// Entries of one depth and one bucket that were put one after another.
 #[derive(Clone, Copy, Debug)]
 pub struct Run {
+    /// The depth of the entries.
     pub depth: usize,
+    /// The bucket of the entries.
     pub bucket: u64,
+    /// The place after the last entry.
     pub end: usize,
+    /// The fold of the depth and the bucket.
     pub fold: u64,
+    /// The place of the next run of that fold, or `NO_RUN`.
     pub next: usize,
 }
 
 /// The places of the first and the last run of a fold.
 #[derive(Clone, Copy, Debug)]
 pub struct Ends {
+    /// The place of the first run.
     pub first: usize,
+    /// The place of the last run.
     pub last: usize,
 }
 
-/// The runs of each fold in a chain, in the order of their puts. There is memory for `room` runs, those that are there included.
+/// The runs in the order of their puts. The runs of each fold are in a chain.
 #[derive(Debug, Drop)]
 pub struct Groups {
+    // for how many runs there is memory, those that are in the chains included
     room: usize,
+    // the ends of the chain of each fold
     heads: IndexMap<u64, Ends>,
     runs: Vec<Run>,
 }
@@ -58,14 +69,14 @@ impl Groups {
         }
     }
 
-    /// For how many runs there is memory, those that are there included.
+    /// For how many runs there is memory, those that are in the chains included.
     pub fn room(&self) -> usize
         ensures { result ≡ self.now.room }
     {
         self.room
     }
 
-    /// Makes room for this many runs more. A refusal changes nothing.
+    /// Makes room for this many more runs. Fails only for want of memory, and then changes nothing.
     pub fn reserve(&mut self, count: usize) -> Result<(), OutOfMemory>
         ensures runs { self.new.runs ≡ self.old.runs }
         ensures ok { OnOk result (self.new.room ≡ max (length self.old.runs + count) self.old.room) }
@@ -88,11 +99,11 @@ impl Groups {
     {
         match self.heads.get(&fold) {
             Some(ends) => ends.first,
-            None => usize::MAX,
+            None => NO_RUN,
         }
     }
 
-    /// The place of the next run of the fold of the one at this place, or a place past all runs.
+    /// The place of the next run with the fold of the run at this place, or a place past all runs.
     pub fn next(&self, place: usize) -> usize
         requires { place < length self.now.runs }
         ensures later { place < result }
@@ -109,7 +120,7 @@ impl Groups {
         self.runs.as_slice()
     }
 
-    /// One more entry of the depth and the bucket, just before the place `end`. It takes no memory.
+    /// Enters one more entry of the depth and the bucket, at the place before `end`. It takes no memory.
     pub fn enter(&mut self, depth: usize, bucket: u64, end: usize)
         requires { length self.old.runs < self.old.room }
         ensures entered { HasEnteredRun self.old.runs self.new.runs depth bucket (group_fold depth bucket) end }
@@ -128,7 +139,7 @@ impl Groups {
                 bucket,
                 end,
                 fold,
-                next: usize::MAX,
+                next: NO_RUN,
             },
         );
     }
@@ -141,7 +152,7 @@ pub fn group_fold(depth: usize, bucket: u64) -> u64
     fold(depth as u64, &[bucket.cast_signed()])
 }
 
-/// Lengthens the last run up to the new end where it is of the depth and the bucket, and answers whether it is. It takes no memory.
+/// Lengthens the last run up to the new end if it has the depth and the bucket, and answers whether it has. It takes no memory.
 fn lengthen(runs: &mut Vec<Run>, depth: usize, bucket: u64, end: usize) -> bool
     ensures longer { result ≡ true → IsLonger runs.old.items runs.new.items depth bucket end }
     ensures kept { result ≡ false → runs.new ≡ runs.old }
@@ -158,7 +169,7 @@ fn lengthen(runs: &mut Vec<Run>, depth: usize, bucket: u64, end: usize) -> bool
     true
 }
 
-/// One more run at the end, which comes next after the one at the place `last`. It takes no memory.
+/// Appends a run, and links it after the run at the place `last`. It takes no memory.
 fn append(runs: &mut Vec<Run>, last: Option<usize>, run: Run)
     requires room { vec_len runs.old < vec_capacity runs.old }
     requires last { IfSome last (λ place. place < length runs.old.items) }
@@ -174,8 +185,7 @@ fn append(runs: &mut Vec<Run>, last: Option<usize>, run: Run)
     runs.push_reserved(run);
 }
 
-/// Makes the place the last of the fold, and answers the one that was, or `None` exactly where there was none. It takes no
-/// memory.
+/// Makes the place the last of the fold, and answers the last place before, or `None` exactly if the fold had none. It takes no memory.
 fn set_last(heads: &mut IndexMap<u64, Ends>, fold: u64, place: usize) -> Option<usize>
     requires { get nat_eq heads.old fold ≡ None → 0 < spare heads.old }
     ensures was { result ≡ last_in (get nat_eq heads.old fold) }

@@ -1,4 +1,4 @@
-ghost use Rattle.std.specs.Prelude.{◌≡◌, ℕ, ◌+◌, ◌≤◌, ◌<◌, ◌⊎◌, [], length, true, None, IfOk, OnOk, OnErr};
+ghost use Rattle.std.specs.Prelude.{◌≡◌, ℕ, ◌+◌, ◌≤◌, ◌<◌, ◌⊎◌, [], length, true, IfOk, OnOk, OnErr};
 ghost use Rattle.dp_model.specs.Gaps.{IsStateOf};
 ghost use Rattle.dominance_table.specs.Dominator.{dominator, AreStates, entry_of_state};
 ghost use Rattle.dominance_table.specs.Entries.{put_gives, after_put, entry_at, with_row};
@@ -11,7 +11,7 @@ use dp_model::{DpModel, OutOfMemory};
 use std::alloc::Global;
 use std::marker::Model;
 
-/// States that were reached, each with its depth, bucket, value and ticket, in the order of their puts, up to a limit.
+/// States that were reached, each with its depth, bucket, rank, value and ticket, in the order of their puts, up to a limit.
 ///
 /// The rows lie one after another in one block. Entries of one depth and bucket that were put one after another are a run, and the
 /// runs of one fold of depth and bucket are in a chain.
@@ -19,9 +19,9 @@ use std::marker::Model;
 pub struct Table {
     words: usize,
     limit: u32,
-    // for how many entries there is memory, those that are there included
+    // for how many entries there is memory, those that are in the table included
     room: usize,
-    // only where no ticket is less than one before it
+    // true only if no ticket is less than an earlier one
     rising: bool,
     entries: Vec<Entry>,
     cells: Vec<i64>,
@@ -63,7 +63,8 @@ impl Table {
         }
     }
 
-    /// Makes `spare` at least `rows`: there is memory for this many entries more. A refusal changes nothing.
+    /// Makes `spare` at least `rows`, so that there is memory for this many more entries. Fails only for want of memory, and then
+    /// changes nothing.
     pub fn reserve(&mut self, rows: usize) -> Result<(), OutOfMemory>
         ensures kept { self.new ≡ record self.old { spare = self.new.spare } }
         ensures spare { self.old.spare ≤ self.new.spare }
@@ -86,30 +87,11 @@ impl Table {
         Ok(())
     }
 
-    /// Puts an entry at the end, which lowers `spare` by one, or answers `AtLimit` and changes nothing exactly where there
-    /// are as many entries as the limit. It takes no memory.
-    ///
-    /// The row has `words` cells, and `spare` is above zero or the limit is reached.
-    pub fn put(&mut self, depth: usize, bucket: u64, row: &[i64], value: i64, ticket: u64) -> Put
-        requires cells { length row.now ≡ self.old.words }
-        requires room { (0 < self.old.spare) ⊎ (length self.old.entries ≡ self.old.limit) }
-        ensures answer { result ≡ put_gives self.old }
-        ensures step { self.new ≡ after_put self.old (record { depth = depth; bucket = bucket; row = row.now; rank = None; value = value; ticket = ticket }) }
-    {
-        let entry = Entry {
-            depth,
-            bucket,
-            rank: None,
-            value,
-            ticket,
-        };
-        self.put_entry(entry, row)
-    }
-
-    /// Puts a state with the bucket and the rank that the model tells, as `put` does. So `dominator` need not ask for the rank.
+    /// Puts a state at the end, with the bucket and the rank that the model gives. This lowers `spare` by one. If there are as many
+    /// entries as the limit, it answers `AtLimit` and changes nothing. It takes no memory.
     ///
     /// The row is a state of the depth and has `words` cells, and `spare` is above zero or the limit is reached.
-    pub fn put_state<M: DpModel>(
+    pub fn put<M: DpModel>(
         &mut self,
         model: &M,
         depth: usize,
@@ -123,17 +105,19 @@ impl Table {
         ensures answer { result ≡ put_gives self.old }
         ensures step { self.new ≡ after_put self.old (entry_of_state (M.meaning (M.numbers model.now)) depth row.now value ticket) }
     {
+        let bucket = model.bucket(depth, row);
+        let rank = model.rank(depth, row);
         let entry = Entry {
             depth,
-            bucket: model.bucket(depth, row),
-            rank: Some(model.rank(depth, row)),
+            bucket,
+            rank,
             value,
             ticket,
         };
         self.put_entry(entry, row)
     }
 
-    /// Puts an entry with its row.
+    /// Puts an entry with its row at the end.
     fn put_entry(&mut self, entry: Entry, row: &[i64]) -> Put
         requires cells { length row.now ≡ self.old.words }
         requires room { (0 < self.old.spare) ⊎ (length self.old.entries ≡ self.old.limit) }
@@ -151,10 +135,12 @@ impl Table {
         Put::Yes
     }
 
-    /// The least ticket of the entries of that depth and of the state's bucket that dominate the state with its value, or
-    /// `None` exactly where there is none. It takes no memory.
+    /// The least ticket of the entries that dominate the state with this value, or `None` exactly if no entry does. An entry dominates if
+    /// it has the depth and the bucket of the state, and its value is no less than the sum of the new value and the gap from its row to
+    /// the new one. It takes no memory.
     ///
-    /// The row is a state of the layer, and so are the rows of all entries of that depth; ranks that were told are of this model.
+    /// The row is a state of the depth, and so are the rows of all entries of that depth. The ranks of these entries are those of this
+    /// model.
     pub fn dominator<M: DpModel>(
         &self,
         model: &M,
@@ -190,7 +176,7 @@ impl Table {
         self.entries.len()
     }
 
-    /// For how many entries more there is memory.
+    /// For how many more entries there is memory.
     pub fn spare(&self) -> usize
         ensures { result ≡ self.now.spare }
     {
@@ -213,7 +199,7 @@ impl Table {
     }
 }
 
-/// Whether tickets rise, as they do or don't so far, with one more at the end.
+/// Whether the tickets still rise with one more at the end. `rising` tells whether they rise so far.
 fn rise_with(rising: bool, entries: &[Entry], ticket: u64) -> bool
     ensures so_far { result ≡ true → rising ≡ true }
     ensures last { (i : ℕ) → result ≡ true → i + 1 ≡ length entries.now → (entry_at entries.now i).ticket ≤ ticket }

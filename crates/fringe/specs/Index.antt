@@ -1,4 +1,4 @@
--- Entries of slots under folds, each with the place after the earlier one of its fold.
+-- Entries of slots under folds, each with the number of the earlier one of its fold. The number of an entry is its place plus 1.
 use Rattle.std.specs.Prelude.{◌≡◌, ◌≢◌, ℕ, ◌+◌, ◌^◌, ◌<◌, ◌≤◌, List, length, slice_index_or, nat_eq, unwrap_or}
 use Rattle.std.specs.declared.hash.FoldHasher.{FoldHasher}
 use Rattle.std.specs.declared.hash.BuildHasherDefault.{BuildHasherDefault}
@@ -10,7 +10,7 @@ pub record IndexView : Type 0 where
   pub nodes : List Node
   pub room : ℕ
 
--- of each fold the place after its last entry
+-- of each fold the number of its last entry
 abbrev pub Heads : Type 0
 Heads = IndexMap ℕ ℕ (BuildHasherDefault FoldHasher)
 
@@ -26,15 +26,15 @@ entry_fold nodes i = (indexed_at nodes i).fold
 abbrev pub entry_slot : List Node → ℕ → ℕ
 entry_slot nodes i = (indexed_at nodes i).slot
 
--- the entry of its fold before it
+-- the number of the entry of its fold before it, or 0
 abbrev pub entry_next : List Node → ℕ → ℕ
 entry_next nodes i = (indexed_at nodes i).next
 
--- the last entry of a fold, or 0
+-- the number of the last entry of a fold, or 0
 abbrev pub head_at : Heads → ℕ → ℕ
 head_at heads fold = unwrap_or (get nat_eq heads fold) 0
 
--- a head or a next is the place after the last entry of its fold, or 0 where there is none
+-- a head or a next is the number of the last entry of its fold, or 0 where there is none
 pub record IsIndex (heads : Heads) (nodes : List Node) : Type 0 where
   pub head_within : (f : ℕ) → head_at heads f ≤ length nodes
   pub head_fold : (f i : ℕ) → head_at heads f ≡ i + 1 → entry_fold nodes i ≡ f

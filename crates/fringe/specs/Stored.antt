@@ -1,6 +1,7 @@
 -- What a fringe keeps of its slots, their keys, its ranks and its index.
 use Rattle.std.specs.Prelude.{◌≡◌, ℕ, ℤ, ◌+◌, ◌*◌, ◌<◌, ◌≤◌, true, false, List, length, map, Option, Some, None}
 use Rattle.row_region.specs.Region.{RegionView}
+use Rattle.fringe.specs.declared.store.TheConstants.{SLACK}
 use Rattle.fringe.specs.Tickets.{Ticketed}
 use Rattle.fringe.specs.Fringe.{is_same, same_at}
 use Rattle.fringe.specs.Index.{IndexView}
@@ -19,9 +20,9 @@ pub record IsFringeStore (words spare : ℕ) (slots : List (Option Ticketed)) (k
   pub ranks_room : ranks.len + spare ≤ ranks.room
   pub index_room : 0 < length slots → length slots < index.room
 
--- of those that are gone there are no more ranks than of those that are open, but for some
+-- the heap has no more stale ranks than open subproblems, but for the slack
 pub record HasFewRanks (slots : List (Option Ticketed)) (ranks : RanksView) : Type 0 where
-  pub few : ranks.len ≤ 2 * length (opened slots) + 65
+  pub few : ranks.len ≤ 2 * (length (opened slots) + SLACK) + 1
 
 -- the slot has the one of the depth and state, with this ticket and value
 pub record HasSame (slots : List (Option Ticketed)) (depth : ℕ) (row : List ℤ) (slot ticket : ℕ) (worth : ℤ) : Type 0 where

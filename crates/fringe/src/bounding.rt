@@ -1,4 +1,4 @@
-//! The greatest of bounds.
+//! The greatest bound.
 
 ghost use Rattle.std.specs.Prelude.{◌≡◌, map};
 ghost use Rattle.dp_model.specs.Numbers.{greatest};
@@ -7,8 +7,8 @@ ghost use Rattle.fringe.specs.Slots.{opened, raised_one};
 
 use crate::listed::Listed;
 
-/// The greater of the option and the number, where none is less than every number.
-fn raised(most: Option<i64>, bound: i64) -> Option<i64>
+/// The greater of the two. `None` is less than every number.
+pub fn raised(most: Option<i64>, bound: i64) -> Option<i64>
     ensures { result ≡ raised most bound }
 {
     match most {
@@ -17,7 +17,7 @@ fn raised(most: Option<i64>, bound: i64) -> Option<i64>
     }
 }
 
-/// The greater of the most so far and the bound of the one in a slot.
+/// The greater of `most` and the bound of the subproblem in a slot.
 fn raised_one(most: Option<i64>, one: &Option<Listed>) -> Option<i64>
     ensures { result ≡ raised_one most one.now }
 {
@@ -27,7 +27,7 @@ fn raised_one(most: Option<i64>, one: &Option<Listed>) -> Option<i64>
     }
 }
 
-/// The greatest bound of an open one, or `None` exactly where there is none.
+/// The greatest bound of an open subproblem, or `None` exactly if nothing is open.
 pub fn best_of(slots: &[Option<Listed>]) -> Option<i64>
     ensures { result ≡ greatest (map (λ o. o.subproblem.bound) (opened slots.now)) }
 {

@@ -1,4 +1,4 @@
-//! Those whose bound is too small.
+//! Dropping the subproblems whose bound is too small.
 
 ghost use Rattle.std.specs.Prelude.{◌≡◌};
 ghost use Rattle.fringe.specs.Tickets.{above_value};
@@ -8,7 +8,7 @@ ghost use Rattle.fringe.specs.Stored.{IsFringeStore, HasFewRanks};
 use crate::slots::is_low;
 use crate::store::{Store, take_out};
 
-/// Drops those whose bound is at most the value.
+/// Drops the subproblems whose bound is at most the value.
 pub fn drop_up_to(store: &mut Store, value: i64)
     requires stored { IsFringeStore store.old.words store.old.spare store.old.slots.items store.old.keys store.old.ranks store.old.index }
     requires few { HasFewRanks store.old.slots.items store.old.ranks }

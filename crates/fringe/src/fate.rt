@@ -1,10 +1,11 @@
-/// What became of a subproblem that was pushed.
+/// The answer to a push.
 #[derive(Clone, Copy, Debug, PartialEq, Eq, Hash)]
 pub enum FringeFate {
-    /// An open one of its depth and state has no less value: the new one is dropped.
+    /// The open subproblem of its depth and state has no less value: the new one is dropped. `by` is the ticket of the open one.
     Kept { by: u64 },
-    /// It is open, and the one of its depth and state, whose value is less, is not any more.
+    /// The open subproblem of its depth and state had less value: it is dropped, and the new one is open. `old` is the ticket of the
+    /// dropped one.
     Replaced { old: u64 },
-    /// It is open beside the others.
+    /// The new subproblem is open, and no other has its depth and state.
     Entered,
 }

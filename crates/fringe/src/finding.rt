@@ -1,4 +1,4 @@
-//! The slot of the one of a depth and state.
+//! Finding the subproblem with a depth and a state.
 
 ghost use Rattle.std.specs.Prelude.{◌≡◌, ℕ, true, false, MatchOption};
 ghost use Rattle.dp_model.specs.Folds.{fold_of};
@@ -8,7 +8,7 @@ use crate::index::Index;
 use crate::listed::Listed;
 use crate::slots::is_same_in;
 
-/// The slot of the one of the depth and state, which have this fold, or `None` exactly where there is none.
+/// The slot of the subproblem with the depth and the state, or `None` exactly if there is none. `fold` is the fold of both.
 pub fn slot_of_same(
     slots: &[Option<Listed>],
     index: &Index,

@@ -1,6 +1,7 @@
 ghost use Rattle.std.specs.Prelude.{◌≡◌, ◌≢◌, ◌+◌, ◌*◌, ◌<◌, ◌≤◌, [], map, length, nat_eq, Some, option_map, IfOk, IfSome, OnOk, OnErr, OnSome};
 ghost use Rattle.dp_model.specs.Lists.{Each};
 ghost use Rattle.dp_model.specs.Numbers.{greatest};
+ghost use Rattle.fringe.specs.declared.store.TheConstants.{SLACK};
 ghost use Rattle.fringe.specs.Firsts.{first_taken, IsFirstTaken};
 ghost use Rattle.fringe.specs.Fringe.{IsFringe, same_at};
 ghost use Rattle.fringe.specs.Listing.{referred};
@@ -49,7 +50,7 @@ impl Model for Fringe {
 }
 
 impl Fringe {
-    /// An empty fringe for rows of this many cells, with `spare` 0. It takes no memory.
+    /// An empty fringe for rows of `words` cells, at least one, with `spare` 0. It takes no memory.
     pub fn new(alloc: Global, words: usize) -> Fringe
         requires { 1 ≤ words }
         ensures { result ≡ record { open_ones = []; words = words; spare = 0 } }
@@ -65,7 +66,7 @@ impl Fringe {
         Fringe { alloc, store }
     }
 
-    /// Makes `spare` at least `count`: there is room for this many more. A refusal changes nothing.
+    /// Makes `spare` at least `count`, so that there is room for this many more. Fails only for want of memory, and then changes nothing.
     pub fn reserve(&mut self, count: usize) -> Result<(), OutOfMemory>
         ensures kept { self.new ≡ record self.old { spare = self.new.spare } }
         ensures spare { self.old.spare ≤ self.new.spare }
@@ -75,11 +76,14 @@ impl Fringe {
         make_room(self.alloc, &mut self.store, count)
     }
 
-    /// Pushes a subproblem under a ticket. Where an open one of its depth and state has no less value, the new one is dropped
-    /// (`Kept`); where that one's value is less, it is dropped and the new one is open (`Replaced`); else the new one is open
-    /// beside the others (`Entered`). It lowers `spare` by one at most, and takes no memory.
+    /// Pushes a subproblem under a ticket. The open subproblem of its depth and state decides:
     ///
-    /// `spare` is above zero, the row has `words` cells, and no open one has the ticket.
+    /// - If its value is no less, the new subproblem is dropped: `Kept`.
+    /// - If its value is less, it is dropped and the new one is open: `Replaced`.
+    /// - If there is none, the new one is open: `Entered`.
+    ///
+    /// `spare` is above zero, the row has `words` cells, and no open subproblem has the ticket. The push lowers `spare` by one at most,
+    /// and takes no memory.
     pub fn push(&mut self, ticket: u64, sub: Sub) -> FringeFate
         requires room { 0 < self.old.spare }
         requires cells { length sub.subproblem.row ≡ self.old.words }
@@ -92,7 +96,7 @@ impl Fringe {
         push_in(&mut self.store, Listed { ticket, sub })
     }
 
-    /// The ticket and the value of the open one of the depth and state, or `None` exactly where there is none.
+    /// The ticket and the value of the open subproblem with the depth and the state, or `None` exactly if there is none.
     ///
     /// The row has `words` cells.
     pub fn same(&self, depth: usize, row: &[i64]) -> Option<Same>
@@ -103,8 +107,8 @@ impl Fringe {
         Some(same)
     }
 
-    /// Takes out the open one with the greatest bound, then the greatest value, then the least ticket; `None` exactly where
-    /// nothing is open. Where it gives one, `spare` rises by one at least.
+    /// Takes out the open subproblem with the greatest bound, then the greatest value, then the least ticket, and raises `spare` by one at
+    /// least. `None` exactly if nothing is open.
     pub fn pop_best(&mut self) -> Option<(u64, Sub)>
         ensures first { IfSome result (λ p. IsFirstTaken self.old.open_ones (record { ticket = p.0; subproblem = p.1.subproblem })) }
         ensures best { option_map (λ p. record { ticket = p.0; subproblem = p.1.subproblem }) result ≡ first_taken self.old.open_ones }
@@ -117,7 +121,7 @@ impl Fringe {
         Some((ticket, sub))
     }
 
-    /// Drops the open ones whose bound is at most the value.
+    /// Drops the open subproblems whose bound is at most the value.
     pub fn drop_up_to(&mut self, value: i64)
         ensures step { self.new.open_ones ≡ above_value value self.old.open_ones }
         ensures words { self.new.words ≡ self.old.words }
@@ -126,30 +130,30 @@ impl Fringe {
         drop_up_to(&mut self.store, value);
     }
 
-    /// The greatest bound of an open one, or `None` exactly where nothing is open.
+    /// The greatest bound of an open subproblem, or `None` exactly if nothing is open.
     pub fn best_bound(&self) -> Option<i64>
         ensures { result ≡ greatest (map (λ o. o.subproblem.bound) self.now.open_ones) }
     {
         best_of(self.store.slots.as_slice())
     }
 
-    /// The open ones with their tickets, in order of ticket. It fails only for want of memory.
+    /// The open subproblems with their tickets, in order of ticket. Fails only for want of memory.
     pub fn by_ticket(&self) -> Result<Vec<(u64, &Sub)>, OutOfMemory>
         ensures { IfOk result (λ list. map referred list.items ≡ self.now.open_ones) }
     {
         list_by_ticket(self.alloc, self.store.slots.as_slice(), self.len())
     }
 
-    /// How many are open.
+    /// How many subproblems are open.
     pub fn len(&self) -> usize
         ensures { result ≡ length self.now.open_ones }
     {
         count_open(self.store.slots.as_slice(), &self.store.keys)
     }
 
-    /// How many entries the heap has, those of subproblems that are gone included: at most twice as many as are open, and 65.
+    /// How many ranks the heap has, with the stale ones of subproblems that are gone. They are at most `2 * (len + SLACK) + 1`.
     pub fn ranks(&self) -> usize
-        ensures { result ≤ 2 * length self.now.open_ones + 65 }
+        ensures { result ≤ 2 * (length self.now.open_ones + SLACK) + 1 }
     {
         self.store.ranks.len()
     }
@@ -161,7 +165,7 @@ impl Fringe {
         self.len() == 0
     }
 
-    /// For how many more there is room. No two open ones have one depth and state, and each row has `words` cells.
+    /// For how many more subproblems there is room.
     pub fn spare(&self) -> usize
         ensures spare { result ≡ self.now.spare }
         ensures kept { IsFringe self.now.words self.now.open_ones }

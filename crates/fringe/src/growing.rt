@@ -1,4 +1,4 @@
-//! More room.
+//! Room for more subproblems.
 
 ghost use Rattle.std.specs.Prelude.{◌≡◌, ℕ, ◌+◌, ◌≤◌, ◌++◌, length, map, replicate, None, OnOk, OnErr, vec_len, vec_capacity};
 ghost use Rattle.fringe.specs.Slots.{in_slot, key_of, opened};
@@ -22,9 +22,9 @@ fn push_empty(slots: &mut Vec<Option<Listed>>, count: usize)
     }
 }
 
-/// At least this many more slots, and at least a fourth of those that are there: so a fringe that grows step by step is entered anew
-/// at a constant cost for each, and few slots stay empty. The index has room for half as many entries again as there are slots, so
-/// that it is made anew after this many pushes at the least.
+/// Makes at least `count` more slots, and at least a fourth of the number of slots. So a fringe that grows step by step pays a constant cost
+/// for each slot, and few slots stay empty. The index has room for half as many entries again as there are slots, so it is rebuilt only
+/// after at least that many pushes.
 fn more_slots(alloc: Global, store: &mut Store, count: usize) -> Result<(), AllocError>
     requires stored { IsFringeStore store.old.words store.old.spare store.old.slots.items store.old.keys store.old.ranks store.old.index }
     ensures stored { IsFringeStore store.new.words store.new.spare store.new.slots.items store.new.keys store.new.ranks store.new.index }
@@ -46,7 +46,7 @@ fn more_slots(alloc: Global, store: &mut Store, count: usize) -> Result<(), Allo
     Ok(())
 }
 
-/// Makes room for this many more. A refusal leaves the open ones and `spare` as they were.
+/// Makes room for this many more. A refusal changes neither the open subproblems nor `spare`.
 pub fn make_room(alloc: Global, store: &mut Store, count: usize) -> Result<(), AllocError>
     requires stored { IsFringeStore store.old.words store.old.spare store.old.slots.items store.old.keys store.old.ranks store.old.index }
     requires few { HasFewRanks store.old.slots.items store.old.ranks }

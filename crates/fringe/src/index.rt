@@ -1,4 +1,6 @@
-//! Which slots were entered under a fold.
+//! The index from folds to slots: a chain of entries for each fold.
+//!
+//! The number of an entry is its place plus 1, and 0 is the number of no entry. So a link has 32 bits and needs no tag.
 
 ghost use Rattle.std.specs.Prelude.{◌≡◌, ◌≢◌, ◌↔◌, ℕ, ◌+◌, ◌<◌, ◌≤◌, [], length, nat_eq, None, IfOk, IsTrue};
 ghost use Rattle.indexmap.specs.IndexMap.{get, index_map_len, spare};
@@ -8,21 +10,24 @@ use indexmap::IndexMap;
 use std::alloc::{AllocError, Global};
 use std::marker::Model;
 
-/// The most entries: the place after one has 32 bits.
+/// The most entries: the number of an entry has 32 bits.
 const MOST_ENTRIES: usize = 0xFFFF_FFFF;
 
-/// An entry: its fold, its slot, and the place after the earlier entry of that fold, or 0.
+/// An entry.
 #[derive(Clone, Copy, Debug)]
 pub struct Node {
+    /// The fold of the entry.
     pub fold: u64,
+    /// The slot of the entry.
     pub slot: u32,
+    /// The next link of the chain: the number of the last earlier entry with that fold, or 0.
     pub next: u32,
 }
 
 /// Entries of slots under folds, in the order in which they came.
 #[derive(Debug, Drop)]
 pub struct Index {
-    // of each fold the place after its last entry
+    // the number of the last entry of each fold
     heads: IndexMap<u64, u32>,
     nodes: Vec<Node>,
 }
@@ -49,7 +54,7 @@ impl Index {
         }
     }
 
-    /// An index without entries, with room for this many. It fails for want of memory, and where a place has more than 32 bits.
+    /// An index without entries, with room for this many. Fails for want of memory, and if `room` exceeds `MOST_ENTRIES`.
     pub fn with_room(alloc: Global, room: usize) -> Result<Index, AllocError>
         ensures nodes { IfOk result (λ x. x.nodes ≡ []) }
         ensures room { IfOk result (λ x. room ≤ x.room) }
@@ -62,21 +67,21 @@ impl Index {
         Ok(Index { heads, nodes })
     }
 
-    /// How many entries have room.
+    /// For how many entries there is room, those that are in the index included.
     pub fn room(&self) -> usize
         ensures { result ≡ self.now.room }
     {
         self.nodes.capacity()
     }
 
-    /// Whether one more entry has room.
+    /// Whether there is room for one more entry.
     pub fn has_room(&self) -> bool
         ensures { IsTrue result ↔ (length self.now.nodes < self.now.room) }
     {
         self.nodes.len() < self.nodes.capacity()
     }
 
-    /// The place after the last entry of the fold, or 0.
+    /// The number of the last entry of the fold, or 0 exactly if the fold has none.
     pub fn last(&self, fold: u64) -> usize
         ensures within { result ≤ length self.now.nodes }
         ensures at { (i : ℕ) → result ≡ i + 1 → entry_fold self.now.nodes i ≡ fold }
@@ -96,7 +101,7 @@ impl Index {
         self.nodes[place]
     }
 
-    /// One more entry. It takes no memory.
+    /// Adds an entry. It takes no memory.
     pub fn enter(&mut self, fold: u64, slot: u32)
         requires { length self.old.nodes < self.old.room }
         ensures entered { HasEntered self.old.nodes self.new.nodes fold slot }
@@ -117,7 +122,7 @@ impl Index {
     }
 }
 
-/// Sets the head of the fold to the place and answers what it was, or 0. It takes no memory.
+/// Makes the entry with this number the last one of the fold, and answers the number of the last one before, or 0. It takes no memory.
 fn set_head(heads: &mut IndexMap<u64, u32>, fold: u64, place: u32) -> u32
     requires { get nat_eq heads.old fold ≡ None → 0 < spare heads.old }
     ensures was { result ≡ head_at heads.old fold }

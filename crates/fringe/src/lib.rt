@@ -1,19 +1,21 @@
-//! The open subproblems of a search, each with its ticket, no two of one depth and state.
+//! The fringe of a search: the open subproblems, each with its ticket, no two of one depth and state.
 //!
-//! It stands on `dp_model`, on the list facts of `dp_laws`, on `row_region` and on the kit's `indexmap`. A fringe is seen as the
-//! list of its open ones in order of ticket, whatever holds them, and the number `spare`. Promised, each in the contract of its
-//! call: `push` drops the new one where an open one of its depth and state has no less value, and else puts it in that one's
-//! place (`Replaced`) or beside the others (`Entered`), by ticket; `pop_best` takes out the one with the greatest bound, then the
-//! greatest value, then the least ticket; `drop_up_to` drops exactly those whose bound is at most the value; `same`,
-//! `best_bound` and `by_ticket` read. No call but `reserve` and `by_ticket` takes memory: a push lowers `spare` by one at most, a
-//! pop that gives one raises it by one at least, and no other call lowers it. `reserve` fails only for want of memory, and then
-//! changes nothing.
+//! The crate stands on `dp_model`, on the list facts of `dp_laws`, on `row_region` and on the kit's `indexmap`. A fringe is seen as the
+//! list of its open subproblems in order of ticket, and the number `spare`. The contract of each call promises:
 //!
-//! The open ones stand in slots, and the key of each in a region at the place of its slot: a row of one cell with the fold of its
-//! depth and state. A slot is free where the region's row is. A heap has the rank of each, and an index from folds the slots that
-//! were entered under a fold, in a chain; depth and row of the one in the slot are compared cell by cell, so the answers are
-//! exact. Heap and index may also name some that are gone, which are skipped as they come up. `ranks` tells how many the heap
-//! has: at most twice as many as are open, and 65.
+//! - `push` drops the new subproblem if the open one of its depth and state has no less value. Otherwise the new one is open, and takes the
+//!   place of that one (`Replaced`) or stands beside the others (`Entered`).
+//! - `pop_best` takes out the subproblem with the greatest bound, then the greatest value, then the least ticket.
+//! - `drop_up_to` drops exactly the subproblems whose bound is at most the value.
+//! - `same`, `best_bound` and `by_ticket` read.
+//! - Only `reserve` and `by_ticket` take memory. A push lowers `spare` by one at most, a pop that gives a subproblem raises it by one at
+//!   least, and no other call lowers it. `reserve` fails only for want of memory, and then changes nothing.
+//!
+//! In memory the open subproblems are in slots. A region has the key of each at the place of its slot: a row of one cell with the fold of
+//! depth and state. A slot is free if its row in the region is. A heap has the rank of each. An index has, for each fold, a chain of the
+//! slots that were entered under it. Depth and row of the subproblem in a slot are compared cell by cell, so the answers are exact
+//! although folds may collide. Heap and index may also name subproblems that are gone. Such stale entries are skipped when they come up.
+//! `ranks` tells how many ranks the heap has, which is at most `2 * (len + SLACK) + 1`.
 //!
 //! ```
 //! let mut fringe = Fringe::new(alloc, words);
@@ -42,6 +44,8 @@ mod same;
 mod slots;
 mod store;
 
+pub use bounding::raised;
 pub use fate::FringeFate;
 pub use fringe::Fringe;
 pub use same::Same;
+pub use store::SLACK;

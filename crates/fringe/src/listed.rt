@@ -1,10 +1,12 @@
 use dp_model::Sub;
 use std::marker::Model;
 
-/// A subproblem with its ticket: an open one, or one that a worker has out.
+/// An open subproblem with its ticket.
 #[derive(Debug, Drop)]
 pub struct Listed {
+    /// Its ticket.
     pub ticket: u64,
+    /// The subproblem.
     pub sub: Sub,
 }
 

@@ -1,4 +1,4 @@
-//! The open ones in order of ticket.
+//! The open subproblems in order of ticket.
 
 ghost use Rattle.std.specs.Prelude.{◌≡◌, map, IfOk};
 ghost use Rattle.fringe.specs.Listing.{in_slots, referred};
@@ -8,7 +8,7 @@ use crate::listed::Listed;
 use dp_model::Sub;
 use std::alloc::{AllocError, Global};
 
-/// Those in the slots with their tickets, in the order of the slots. There are this many.
+/// The `count` open subproblems with their tickets, in the order of their slots.
 fn list_slots<'a>(
     alloc: Global,
     slots: &'a [Option<Listed>],
@@ -25,7 +25,7 @@ fn list_slots<'a>(
     Ok(list)
 }
 
-/// Those in the slots with their tickets, in order of ticket. There are this many.
+/// The `count` open subproblems with their tickets, in order of ticket.
 pub fn list_by_ticket<'a>(
     alloc: Global,
     slots: &'a [Option<Listed>],

@@ -1,4 +1,4 @@
-//! The slot of the one that is taken first.
+//! The slot of the subproblem that is taken first.
 
 ghost use Rattle.std.specs.Prelude.{◌≡◌, ◌≢◌, ◌+◌, ◌≤◌, ℕ, Some, None, IfSome, IfNone, OnSome, Contains};
 ghost use Rattle.fringe.specs.Tickets.{Ticketed};
@@ -8,7 +8,7 @@ use crate::listed::Listed;
 use crate::ranks::Ranks;
 use crate::slots::has_rank;
 
-/// Takes out ranks until one is that of an open one, and answers its slot; `None` exactly where no slot has one.
+/// Pops ranks until one belongs to an open subproblem, and answers its slot, or `None` exactly if nothing is open.
 pub fn first_slot(slots: &[Option<Listed>], ranks: &mut Ranks) -> Option<u32>
     requires ranked { AreRanked slots.now ranks.old.ranks }
     ensures none { IfNone result ((s : ℕ) → in_slot slots.now s ≡ None) }

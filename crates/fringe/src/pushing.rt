@@ -1,4 +1,4 @@
-//! What a push does to what is stored.
+//! Pushing a subproblem.
 
 ghost use Rattle.std.specs.Prelude.{◌≡◌, ◌≢◌, ◌+◌, ◌<◌, ◌≤◌, length, MatchOption};
 ghost use Rattle.dp_model.specs.Folds.{fold_of};
@@ -15,7 +15,7 @@ use crate::same::Same;
 use crate::slots::in_slot;
 use crate::store::{Store, put_in, take_out};
 
-/// Its ticket and value.
+/// The ticket and the value of an open subproblem.
 fn same_of(one: &Listed) -> Same
     ensures ticket { result.ticket ≡ one.now.ticket }
     ensures value { result.value ≡ one.now.subproblem.value }
@@ -26,7 +26,7 @@ fn same_of(one: &Listed) -> Same
     }
 }
 
-/// The slot of the one of the depth and state, which have this fold, with its ticket and value.
+/// The slot of the subproblem with the depth and the state, with its ticket and value. `fold` is the fold of both.
 pub fn find_same(store: &Store, fold: u64, depth: usize, row: &[i64]) -> Option<(u32, Same)>
     requires stored { IsFringeStore store.now.words store.now.spare store.now.slots.items store.now.keys store.now.ranks store.now.index }
     requires fold { fold ≡ fold_of depth row.now }
@@ -40,7 +40,7 @@ pub fn find_same(store: &Store, fold: u64, depth: usize, row: &[i64]) -> Option<
     Some((slot, same_of(one)))
 }
 
-/// Pushes one.
+/// Pushes a subproblem.
 pub fn push_in(store: &mut Store, one: Listed) -> FringeFate
     requires stored { IsFringeStore store.old.words store.old.spare store.old.slots.items store.old.keys store.old.ranks store.old.index }
     requires few { HasFewRanks store.old.slots.items store.old.ranks }

@@ -1,4 +1,4 @@
-//! The place of an open one in the order in which they are taken.
+//! The order in which open subproblems are taken.
 
 ghost use Rattle.std.proofs.Common.{rules};
 ghost use Rattle.std.specs.Cmp.{partial_order_from_agreeing_total};
@@ -9,12 +9,16 @@ ghost use Rattle.std.specs.Prelude.{refl};
 
 use std::cmp::Ordering;
 
-/// What an open one is taken by, and its slot. The greater rank is taken first.
+/// What decides when an open subproblem is taken, and its slot. The subproblem with the greatest rank is taken first.
 #[derive(Clone, Copy, Debug, PartialEq, Eq)]
 pub struct Rank {
+    /// Its bound. The greater one is taken first.
     pub bound: i64,
+    /// Its value. Of equal bounds the greater value is taken first.
     pub value: i64,
+    /// Its ticket. Of equal bounds and values the lesser ticket is taken first.
     pub ticket: u64,
+    /// Its slot.
     pub slot: u32,
 }
 

@@ -1,4 +1,4 @@
-//! The ranks of the open ones, the greatest first, and ranks of those that are gone.
+//! The heap: the ranks of the open subproblems and stale ranks of those that are gone, the greatest first.
 
 ghost use Rattle.std.specs.Prelude.{◌≡◌, ◌+◌, ◌<◌, ◌≤◌, ◌∷◌, [], IfSome, IfNone, OnOk, OnSome, IsPermutation, Contains, true};
 ghost use Rattle.std.specs.BinaryHeap.{IsUpperBound};
@@ -58,7 +58,7 @@ impl Ranks {
         self.heap.reserve(count)
     }
 
-    /// One more. It takes no memory.
+    /// Adds a rank. It takes no memory.
     pub fn push(&mut self, rank: Rank)
         requires { self.old.len < self.old.room }
         ensures ranks { IsPermutation (rank ∷ self.old.ranks) self.new.ranks }
@@ -70,7 +70,7 @@ impl Ranks {
         };
     }
 
-    /// Takes out the greatest.
+    /// Takes out the greatest rank.
     pub fn pop(&mut self) -> Option<Rank>
         ensures none { IfNone result (self.old.ranks ≡ []) }
         ensures unchanged { IfNone result (self.new ≡ self.old) }
@@ -91,7 +91,7 @@ impl Ranks {
         self.heap.clear();
     }
 
-    /// Drops the ranks of those that are gone.
+    /// Drops the stale ranks.
     pub fn keep_fresh(&mut self, slots: &[Option<Listed>])
         ensures kept { (rank : Rank) → Contains self.old.ranks rank → has_rank rank (in_slot slots.now rank.slot) ≡ true → Contains self.new.ranks rank }
         ensures len { self.new.len ≤ self.old.len }

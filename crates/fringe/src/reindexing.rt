@@ -1,4 +1,4 @@
-//! The index made anew.
+//! Rebuilding the index.
 
 ghost use Rattle.std.specs.Prelude.{◌≡◌, ℕ, ◌+◌, ◌^◌, ◌<◌, ◌≤◌, length, map, Some, IfOk, IsSome};
 ghost use Rattle.fringe.specs.Slots.{AreIndexed, IsIndexed, in_slot, key_of, own_fold};
@@ -11,14 +11,14 @@ use dp_model::fold;
 use row_region::{Region, RowId};
 use std::alloc::{AllocError, Global};
 
-/// The fold of its depth and state.
+/// The fold of the depth and the state of a subproblem.
 pub fn fold_of_one(one: &Listed) -> u64
     ensures { result ≡ own_fold one.now }
 {
     fold(one.sub.decisions.len() as u64, one.sub.row.as_slice())
 }
 
-/// The fold of the one in the slot, as its key says.
+/// The fold of the subproblem in the slot, from its key.
 fn fold_in(slots: &[Option<Listed>], keys: &Region, slot: u32) -> u64
     requires keyed { keys.now.rows ≡ map key_of slots.now }
     requires there { IsSome (in_slot slots.now slot) }
@@ -27,7 +27,7 @@ fn fold_in(slots: &[Option<Listed>], keys: &Region, slot: u32) -> u64
     keys.row(RowId { place: slot })[0].cast_unsigned()
 }
 
-/// Enters the one in the slot, where it has one. It takes no memory.
+/// Enters the subproblem in the slot, if there is one. It takes no memory.
 fn enter_slot(slots: &[Option<Listed>], keys: &Region, slot: u32, index: &mut Index)
     requires keyed { keys.now.rows ≡ map key_of slots.now }
     requires room { length index.old.nodes < index.old.room }
@@ -41,7 +41,7 @@ fn enter_slot(slots: &[Option<Listed>], keys: &Region, slot: u32, index: &mut In
     }
 }
 
-/// Drops all entries and enters the open ones alone. It takes no memory.
+/// Drops all entries, and enters the open subproblems only. It takes no memory.
 fn reindex(slots: &[Option<Listed>], keys: &Region, index: &mut Index)
     requires keyed { keys.now.rows ≡ map key_of slots.now }
     requires room { length slots.now ≤ index.old.room }
@@ -56,7 +56,7 @@ fn reindex(slots: &[Option<Listed>], keys: &Region, index: &mut Index)
     }
 }
 
-/// Sees to it that one more entry has room. It takes no memory.
+/// Makes room for one more entry, by a rebuild if the index is full. It takes no memory.
 pub fn ready_index(slots: &[Option<Listed>], keys: &Region, index: &mut Index)
     requires keyed { keys.now.rows ≡ map key_of slots.now }
     requires room { length slots.now < index.old.room }
@@ -71,7 +71,7 @@ pub fn ready_index(slots: &[Option<Listed>], keys: &Region, index: &mut Index)
     }
 }
 
-/// An index of the open ones with room for this many entries.
+/// An index of the open subproblems with room for this many entries.
 pub fn index_for(
     alloc: Global,
     slots: &[Option<Listed>],

@@ -1,4 +1,4 @@
-//! The ranks made anew.
+//! Rebuilding the heap.
 
 ghost use Rattle.std.specs.Prelude.{◌≡◌, ◌+◌, ◌^◌, ◌<◌, ◌≤◌, length, Some, None, Contains};
 ghost use Rattle.fringe.specs.Slots.{AreRanked, in_slot, opened, rank_of};
@@ -10,7 +10,7 @@ use crate::rank::Rank;
 use crate::ranks::Ranks;
 use crate::slots::in_slot;
 
-/// The rank of the one in a slot.
+/// The rank of the subproblem in a slot.
 pub fn rank_of(one: &Listed, slot: u32) -> Rank
     ensures { result ≡ rank_of slot one.now }
 {
@@ -22,7 +22,7 @@ pub fn rank_of(one: &Listed, slot: u32) -> Rank
     }
 }
 
-/// Adds the rank of the one in the slot, where it has one. It takes no memory.
+/// Adds the rank of the subproblem in the slot, if there is one. It takes no memory.
 fn rank_slot(slots: &[Option<Listed>], slot: u32, ranks: &mut Ranks)
     requires { (o : Ticketed) → in_slot slots.now slot ≡ Some o → ranks.old.len < ranks.old.room }
     ensures ranked { (o : Ticketed) → in_slot slots.now slot ≡ Some o → Contains ranks.new.ranks (rank_of slot o) }
@@ -36,7 +36,7 @@ fn rank_slot(slots: &[Option<Listed>], slot: u32, ranks: &mut Ranks)
     }
 }
 
-/// Drops all ranks and adds those of the open ones alone. It takes no memory.
+/// Drops all ranks, and adds those of the open subproblems only. It takes no memory.
 pub fn rerank(slots: &[Option<Listed>], ranks: &mut Ranks)
     requires room { length (opened slots.now) ≤ ranks.old.room }
     requires most { length slots.now ≤ 2 ^ 32 }

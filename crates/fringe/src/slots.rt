@@ -8,14 +8,14 @@ use crate::listed::Listed;
 use crate::rank::Rank;
 use dp_model::row_same;
 
-/// The open one in the slot, where it has one.
+/// The open subproblem in the slot, or `None` if there is none.
 pub fn in_slot(slots: &[Option<Listed>], slot: u32) -> Option<&Listed>
     ensures { option_copied result ≡ in_slot slots.now slot }
 {
     slots.get(slot as usize)?.as_ref()
 }
 
-/// Whether the slot of the rank has the one of that rank.
+/// Whether the rank belongs to the subproblem in its slot. If not, it is stale.
 pub fn has_rank(slots: &[Option<Listed>], rank: &Rank) -> bool
     ensures { result ≡ has_rank rank.now (in_slot slots.now rank.now.slot) }
 {
@@ -27,7 +27,7 @@ pub fn has_rank(slots: &[Option<Listed>], rank: &Rank) -> bool
     }
 }
 
-/// Whether the slot has one whose bound is at most the value.
+/// Whether the slot has a subproblem whose bound is at most the value.
 pub fn is_low(slots: &[Option<Listed>], slot: u32, value: i64) -> bool
     ensures { result ≡ is_low value (in_slot slots.now slot) }
 {
@@ -37,14 +37,14 @@ pub fn is_low(slots: &[Option<Listed>], slot: u32, value: i64) -> bool
     }
 }
 
-/// Whether it is the one of the depth and state.
+/// Whether the subproblem has the depth and the state.
 fn is_same(one: &Listed, depth: usize, row: &[i64]) -> bool
     ensures { result ≡ is_same depth row.now one.now }
 {
     one.sub.decisions.len() == depth && row_same(one.sub.row.as_slice(), row)
 }
 
-/// Whether the slot has the one of the depth and state.
+/// Whether the slot has a subproblem with the depth and the state.
 pub fn is_same_in(slots: &[Option<Listed>], slot: u32, depth: usize, row: &[i64]) -> bool
     ensures { result ≡ is_same_in depth row.now (in_slot slots.now slot) }
 {

@@ -15,20 +15,27 @@ use crate::reindexing::ready_index;
 use crate::reranking::{rank_of, rerank};
 use row_region::{Region, RowId};
 
-/// The open ones in slots, a region with the key of each at the place of its slot, a heap with the rank of each, and an index
-/// with the fold of each. A key is a row of one cell: the fold of depth and state. Ranks and index may also name some that are
-/// gone.
+/// A heap keeps its stale ranks while it has at most `2 * (open + SLACK) + 1` ranks, so a small heap is never trimmed.
+pub const SLACK: usize = 32;
+
+/// What a fringe has in memory. Heap and index may also name subproblems that are gone.
 #[derive(Debug, Drop)]
 pub struct Store {
+    /// How many cells a row has.
     pub words: usize,
+    /// For how many more subproblems there is room.
     pub spare: usize,
+    /// The open subproblems.
     pub slots: Vec<Option<Listed>>,
+    /// The key of each open subproblem, at the place of its slot. A key is a row of one cell: the fold of depth and state.
     pub keys: Region,
+    /// The heap, with the rank of each open subproblem.
     pub ranks: Ranks,
+    /// The index, with the fold of each open subproblem.
     pub index: Index,
 }
 
-/// One more, with its fold. It takes no memory.
+/// Adds a subproblem, which has this fold. It takes no memory.
 pub fn put_in(store: &mut Store, one: Listed, fold: u64)
     requires stored { IsFringeStore store.old.words store.old.spare store.old.slots.items store.old.keys store.old.ranks store.old.index }
     requires few { HasFewRanks store.old.slots.items store.old.ranks }
@@ -59,7 +66,7 @@ pub fn put_in(store: &mut Store, one: Listed, fold: u64)
     store.spare -= 1;
 }
 
-/// Empties the slot and answers what it had.
+/// Empties the slot, and answers the subproblem that it had.
 fn clear_slot(store: &mut Store, slot: u32) -> Listed
     requires keyed { store.old.keys.rows ≡ map key_of store.old.slots.items }
     requires there { IsSome (in_slot store.old.slots.items slot) }
@@ -87,8 +94,8 @@ pub fn count_open(slots: &[Option<Listed>], keys: &Region) -> usize
     slots.len() - keys.spare()
 }
 
-/// Where those that are gone have more than half of the ranks, drops the ranks of those: so they never outnumber the open ones
-/// by more than a constant factor, and each rank is dropped once. Where equal ranks are left, it makes the ranks anew.
+/// Drops the stale ranks if the heap has more than `2 * (open + SLACK) + 1` ranks. If equal ranks keep it too large, rebuilds the heap. So
+/// the heap has at most that many ranks afterwards, and each rank is dropped once.
 fn trim_ranks(store: &mut Store)
     requires stored { IsFringeStore store.old.words store.old.spare store.old.slots.items store.old.keys store.old.ranks store.old.index }
     ensures stored { IsFringeStore store.new.words store.new.spare store.new.slots.items store.new.keys store.new.ranks store.new.index }
@@ -96,7 +103,7 @@ fn trim_ranks(store: &mut Store)
     ensures few { HasFewRanks store.new.slots.items store.new.ranks }
 {
     let _rows = store.keys.rows();
-    let most = count_open(store.slots.as_slice(), &store.keys) + 32;
+    let most = count_open(store.slots.as_slice(), &store.keys) + SLACK;
     if most < store.ranks.len() / 2 {
         store.ranks.keep_fresh(store.slots.as_slice());
     }
@@ -105,7 +112,7 @@ fn trim_ranks(store: &mut Store)
     }
 }
 
-/// Takes out the one in the slot.
+/// Takes out the subproblem in the slot.
 pub fn take_out(store: &mut Store, slot: u32) -> Listed
     requires stored { IsFringeStore store.old.words store.old.spare store.old.slots.items store.old.keys store.old.ranks store.old.index }
     requires there { IsSome (in_slot store.old.slots.items slot) }
@@ -123,7 +130,7 @@ pub fn take_out(store: &mut Store, slot: u32) -> Listed
     one
 }
 
-/// Takes out the one that is taken first; `None` exactly where there is none.
+/// Takes out the first subproblem in the order in which they are taken, or answers `None` exactly if there is none.
 pub fn take_first(store: &mut Store) -> Option<Listed>
     requires stored { IsFringeStore store.old.words store.old.spare store.old.slots.items store.old.keys store.old.ranks store.old.index }
     requires few { HasFewRanks store.old.slots.items store.old.ranks }

@@ -18,7 +18,7 @@ use std::process::Abort;
 use std::sync::Arc;
 use std::test::Fail;
 
-/// Three items in a room of 10. The best value is 120; whole copies by profit for weight, and a part of the last one, give 121.
+/// Three items in a room of 10. The best value is 120. Items by profit per weight, with a part of the last one, give 121.
 const THREE_ITEMS: &[u8] = b"3 10\n60 5\n50 4\n70 6\n";
 
 /// Two items that fit together, with a profit of 110.
@@ -62,12 +62,12 @@ fn seen<M: DpModel>(board: &Board<M>) -> Shown {
     }
 }
 
-/// What the board shows at the end. Only here is a board dropped, which takes most of a proof's time.
+/// What the board shows at the end. A drop of a board takes most of the time of a proof, so only this function drops one.
 fn last_seen<M: DpModel>(board: Board<M>) -> Shown {
     seen(&board)
 }
 
-/// Stops the test where a board does not show what is wanted.
+/// Stops the test if a board does not show what is wanted.
 fn shows(rt: &impl Abort, found: Shown, wanted: Shown) {
     assert_eq!(rt; found, wanted);
 }
@@ -138,7 +138,7 @@ fn is_closed<M: DpModel>(board: &Board<M>) -> bool
     board.bound() == board.incumbent_value()
 }
 
-/// Finishes without children, where no feasible solution is worth more than the incumbent.
+/// Finishes without children. No feasible solution is worth more than the incumbent.
 fn finish_childless<M: DpModel>(alloc: Global, board: &mut Board<M>)
     requires full { IsSome (slot_at board.old.board 0) }
     requires closed { (x : List ℕ) → IsSolution (M.meaning board.old.numbers) x → AtMost (value_of (M.meaning board.old.numbers) x) (incumbent_value board.old.board) }
@@ -191,7 +191,7 @@ fn frontier_seen<M: DpModel>(
     Ok((first, board.live(), board.next_ticket()))
 }
 
-/// That of the board once the worker has asked for the root.
+/// The same after the worker has asked for the root.
 fn frontier_after_asking<M: DpModel>(
     alloc: Global,
     model: M,
@@ -289,7 +289,7 @@ fn listed_root<M: DpModel>(
     Ok(listed)
 }
 
-/// The board that is restored from the root alone, when every ticket but the last was given out.
+/// A board that is restored from the root alone, after every ticket but the last was given out.
 fn restored_at_the_end<M: DpModel>(
     alloc: Global,
     model: M,
@@ -362,7 +362,7 @@ fn what_is_out_stays_in_the_frontier(rt: HostRuntime) -> Result<(), Fail> {
 }
 
 #[test]
-fn a_budget_of_none_is_taken_up(rt: HostRuntime) -> Result<(), Fail> {
+fn a_budget_of_zero_is_used_up(rt: HostRuntime) -> Result<(), Fail> {
     let model = items(&rt, rt.alloc(), THREE_ITEMS);
     let (answer, _bound, found) = after_asking(rt.alloc(), model, 0)?;
     assert_eq!(rt; (answer, found), (Taken::Halted(Cause::Budget), AT_FIRST));

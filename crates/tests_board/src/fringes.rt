@@ -1,4 +1,4 @@
-//! A fringe of one state, the order in which subproblems are popped, and more of them than a list could hold in a test's time.
+//! Tests of the fringe: pushes of one state, the order of pops, and more subproblems than a list could handle in the time of a test.
 
 ghost use Rattle.std.specs.Prelude.{◌+◌, ◌<◌};
 ghost use Rattle.dp_model.specs.Lists.{Each};
@@ -67,7 +67,7 @@ fn filled(rt: &impl Abort, alloc: Global, pushes: &[Push]) -> Result<Fringe, All
     Ok(fringe)
 }
 
-/// The ticket of what is popped.
+/// The ticket of the subproblem that is popped.
 fn popped(fringe: &mut Fringe) -> Option<u64> {
     let (ticket, _sub) = fringe.pop_best()?;
     Some(ticket)
@@ -80,7 +80,7 @@ fn pops(rt: &impl Abort, fringe: &mut Fringe, tickets: &[u64]) {
     }
 }
 
-/// Whether nothing is left. Only here and where it can't be filled is a fringe dropped, which takes most of a proof's time.
+/// Whether nothing is left. A drop of a fringe takes most of the time of a proof, so few functions drop one.
 fn ends(mut fringe: Fringe) -> bool {
     popped(&mut fringe).is_none() && fringe.is_empty()
 }
@@ -91,7 +91,7 @@ fn empties(rt: &impl Abort, mut fringe: Fringe, tickets: &[u64]) {
     assert!(rt; ends(fringe));
 }
 
-/// The open one of a depth and a state of one cell is this one.
+/// The open subproblem with this depth and this state of one cell is this one.
 fn has_same(rt: &impl Abort, fringe: &Fringe, depth: usize, cell: i64, wanted: Option<Same>) {
     assert!(rt; fringe.words() == 1);
     assert_eq!(rt; fringe.same(depth, &[cell]), wanted);
@@ -109,7 +109,7 @@ const OF_ONE_STATE: &[Push] = &[
     (5, 70, 121, FringeFate::Replaced { old: 1 }),
 ];
 
-/// What is open of the state that was pushed again and again.
+/// The open subproblem of the state that was pushed several times.
 const GREATEST: Same = Same {
     ticket: 3,
     value: 70,
@@ -148,7 +148,7 @@ fn lists(
     Ok(())
 }
 
-/// The last one takes the place in memory of the first.
+/// The last subproblem takes the place of the first in memory.
 const IN_ONE_PLACE: &[Push] = &[
     (5, 60, 121, FringeFate::Entered),
     (10, 0, 120, FringeFate::Entered),
@@ -226,7 +226,7 @@ fn holds_many(alloc: Global, count: u32) -> Result<bool, AllocError> {
 
 #[test]
 fn many_are_pushed_and_popped(rt: HostRuntime) -> Result<(), Fail> {
-    // a list would need minutes for them
+    // a list would need minutes for this many
     assert!(rt; holds_many(rt.alloc(), 200_000)?);
     Ok(())
 }

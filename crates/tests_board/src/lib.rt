@@ -1,7 +1,7 @@
-//! Tests of a board and of what it stands on, the fringe and the dominance table, over a real problem.
+//! Tests of the board and of two crates below it, the fringe and the dominance table, over a real problem.
 //!
-//! It stands on the crates that it tests and on the knapsack. They stay without tests of their own, so that each of their
-//! functions is proved once.
+//! The crate stands on the crates that it tests and on the knapsack. These have no tests of their own, so that each of their functions is
+//! proved once.
 #![tactic(auto)]
 
 #[cfg(test)]

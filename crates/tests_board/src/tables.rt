@@ -28,15 +28,8 @@ fn is_state<M: DpModel>(model: &M, depth: usize, row: &[i64]) -> bool
     depth <= model.vars() && row.len() == model.words() && model.is_state(depth, row)
 }
 
-/// Puts the state into an empty table under ticket 1, with its rank or without.
-fn put_first<M: DpModel>(
-    model: &M,
-    table: &mut Table,
-    depth: usize,
-    row: &[i64],
-    value: i64,
-    ranked: bool,
-)
+/// Puts the state into an empty table under ticket 1.
+fn put_first<M: DpModel>(model: &M, table: &mut Table, depth: usize, row: &[i64], value: i64)
     requires empty { table.old.entries ≡ [] }
     requires limit { table.old.limit ≡ 1 }
     requires room { 0 < table.old.spare }
@@ -44,20 +37,15 @@ fn put_first<M: DpModel>(
     requires state { IsStateOf (M.meaning (M.numbers model.now)) depth row.now }
     ensures { (k : ℕ) → AreStates (M.meaning (M.numbers model.now)) k table.new.entries }
 {
-    if ranked {
-        table.put_state(model, depth, row, value, 1);
-        return;
-    }
-    table.put(depth, model.bucket(depth, row), row, value, 1);
+    table.put(model, depth, row, value, 1);
 }
 
-/// The dominator of the second state where the table has the first one alone, under ticket 1, with its rank or without.
+/// The dominator of the second state in a table that has only the first one, under ticket 1.
 fn dominator_beside<M: DpModel>(
     rt: &impl Abort,
     alloc: Global,
     model: &M,
     entry: Reached,
-    ranked: bool,
     sought: Reached,
 ) -> Result<Option<u64>, OutOfMemory> {
     let (depth, left, value) = entry;
@@ -65,7 +53,7 @@ fn dominator_beside<M: DpModel>(
     assert!(rt; is_state(model, depth, &row), "{entry:?}");
     let mut table = Table::new(alloc, 1, 1);
     table.reserve(1)?;
-    put_first(model, &mut table, depth, &row, value, ranked);
+    put_first(model, &mut table, depth, &row, value);
     let (depth, left, value) = sought;
     let row = [left];
     assert!(rt; is_state(model, depth, &row), "{sought:?}");
@@ -86,56 +74,52 @@ fn has_dominator<M: DpModel>(
     rt: &impl Abort,
     alloc: Global,
     model: &M,
-    ranked: bool,
     sought: Reached,
     wanted: Option<u64>,
 ) -> Result<(), OutOfMemory> {
-    let by = dominator_beside(rt, alloc, model, (1, 5, 60), ranked, sought)?;
-    assert_eq!(rt; by, wanted, "at {sought:?} {ranked}");
-    Ok(())
-}
-
-/// The states have their dominators.
-fn has_dominators<M: DpModel>(
-    rt: &impl Abort,
-    alloc: Global,
-    model: &M,
-    ranked: bool,
-) -> Result<(), OutOfMemory> {
-    for (sought, wanted) in STATES.iter().copied() {
-        has_dominator(rt, alloc, model, ranked, sought, wanted)?;
-    }
+    let by = dominator_beside(rt, alloc, model, (1, 5, 60), sought)?;
+    assert_eq!(rt; by, wanted, "at {sought:?}");
     Ok(())
 }
 
 #[test]
 fn states_with_no_more_room_and_no_more_value_are_dominated(rt: HostRuntime) -> Result<(), Fail> {
     let model = three_items(&rt, rt.alloc());
-    has_dominators(&rt, rt.alloc(), &model, false)?;
-    has_dominators(&rt, rt.alloc(), &model, true)?;
+    for (sought, wanted) in STATES.iter().copied() {
+        has_dominator(&rt, rt.alloc(), &model, sought, wanted)?;
+    }
     Ok(())
 }
 
-/// Puts an entry of depth 1 with this state, value and ticket, and answers so.
-fn puts(rt: &impl Abort, table: &mut Table, entry: (i64, i64, u64), wanted: (Put, usize)) {
+/// The table answers so to a put of this state of depth 1, with this value and ticket.
+fn puts<M: DpModel>(
+    rt: &impl Abort,
+    model: &M,
+    table: &mut Table,
+    entry: (i64, i64, u64),
+    wanted: (Put, usize),
+) {
     let (cell, value, ticket) = entry;
+    let row = [cell];
+    assert!(rt; is_state(model, 1, &row), "{entry:?}");
     assert!(rt; table.words() == 1);
     assert!(rt; table.spare() > 0 || table.len() == table.limit() as usize);
-    let answer = table.put(1, 0, &[cell], value, ticket);
+    let answer = table.put(model, 1, &row, value, ticket);
     assert_eq!(rt; (answer, table.len()), wanted);
 }
 
-/// There is no room.
+/// The table is empty and has no room.
 fn is_new(rt: &impl Abort, table: &Table) {
     assert_eq!(rt; (table.spare(), table.len()), (0, 0));
 }
 
 #[test]
 fn puts_up_to_the_limit(rt: HostRuntime) -> Result<(), Fail> {
+    let model = three_items(&rt, rt.alloc());
     let mut table = Table::new(rt.alloc(), 1, 1);
     is_new(&rt, &table);
     table.reserve(1)?;
-    puts(&rt, &mut table, (5, 60, 1), (Put::Yes, 1));
-    puts(&rt, &mut table, (10, 0, 2), (Put::AtLimit, 1));
+    puts(&rt, &model, &mut table, (5, 60, 1), (Put::Yes, 1));
+    puts(&rt, &model, &mut table, (10, 0, 2), (Put::AtLimit, 1));
     Ok(())
 }

@@ -54,7 +54,7 @@ pub fn last_value<M: DpModel>(kept: Kept<M, MemDisk>) -> Option<i64> {
 /// A turn over a board of a knapsack that is kept on a disk in memory.
 pub type BoardTurn = Turn<Kept<Knapsack, MemDisk>>;
 
-/// A seat of it.
+/// A seat of that turn.
 pub type BoardSeat = Seat<Kept<Knapsack, MemDisk>>;
 
 /// A turn with two seats over the board at the start of a search, which is kept in no journal.
@@ -102,7 +102,7 @@ fn found_by_first<M: DpModel, D: Disk + Send, R: Wait>(
     Some(incumbent_found(rt, turn, seat))
 }
 
-/// The seat offers a solution, and tells what it finds then, which is no less than what was left.
+/// The seat offers a solution, and answers the value that it finds then, which is no less than the value that it left.
 fn found_after<M: DpModel, D: Disk + Send, R: Wait>(
     rt: &R,
     alloc: Global,
@@ -121,7 +121,7 @@ fn found_after<M: DpModel, D: Disk + Send, R: Wait>(
     }
 }
 
-/// What a seat finds after it offered a solution, and what the first of the others then finds.
+/// What a seat finds after its offer of a solution, and what the first of the others finds then.
 fn meet_first<M: DpModel, D: Disk + Send, R: Wait>(
     rt: &R,
     alloc: Global,
@@ -141,7 +141,7 @@ fn meet_first<M: DpModel, D: Disk + Send, R: Wait>(
     (again, found_by_first(rt, turn, others))
 }
 
-/// The first seat offers a solution; then it and the second one tell what they find.
+/// The first seat offers a solution. Then it and the second seat answer what they find.
 pub fn meet_over_board<M: DpModel, D: Disk + Send, R: Wait>(
     rt: &R,
     alloc: Global,

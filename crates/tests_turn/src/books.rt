@@ -23,10 +23,12 @@ use turn::NoTurn;
 /// The width of the diagrams.
 const WIDTH: u32 = 1;
 
-/// How many diagrams a book has, and how many subproblems were finished.
+/// The result of a search.
 #[derive(Clone, Copy, Debug, PartialEq, Eq)]
 pub struct Collection {
+    /// How many diagrams the book has.
     pub pages: usize,
+    /// How many subproblems were finished.
     pub finished: u64,
 }
 

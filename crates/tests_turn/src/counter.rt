@@ -6,7 +6,7 @@ use std::alloc::{AllocError, Global};
 use std::marker::Model;
 use turn::Turned;
 
-/// Numbers below a limit are handed out, one to a worker at a time, and the greatest that came back is kept.
+/// Hands out numbers below a limit, one to a worker at a time, and keeps the greatest number that came back.
 #[derive(Drop)]
 pub struct Counter {
     limit: u32,
@@ -23,7 +23,7 @@ impl Model for Counter {
     ghost invariant = { λ c. c.next ≤ c.limit };
 }
 
-/// What no step changes. No value of it is made.
+/// What no step changes. Only proofs use it: no value of it is made.
 pub struct Terms {
     pub limit: u32,
     pub workers: u64,

@@ -1,9 +1,9 @@
-//! Tests of the turn: over a small value, a counter that hands out numbers to workers and keeps the greatest that came back, and over
-//! the board of a search.
+//! Tests of the turn. One value under the turn is a counter that hands out numbers to workers and keeps the greatest number that came
+//! back. The other is the board of a search.
 //!
-//! It stands on `turn`, and for the board, which is kept in no journal, on `search_workers` and a knapsack. `Counter` is a value with slots whose two steps are
-//! moves, `work` is what one worker does, and `fan_out` runs the workers beside one another. All but the counter is test code, so that
-//! each function is proved once. That two threads ran, no clause says and no test shows.
+//! The crate stands on `turn`. For the board, which is in no journal, it stands on `search_workers` and on a knapsack. `Counter` is a value
+//! with slots and two kinds of move, `work` is what one worker does, and `fan_out` runs the workers in parallel. Everything but the counter
+//! is test code, so that each function is proved once. No clause and no test shows that two threads ran at the same time.
 #![tactic(auto)]
 
 #[cfg(test)]

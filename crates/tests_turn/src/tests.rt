@@ -13,7 +13,7 @@ fn workers_count_to_the_limit(rt: HostRuntime) -> Result<(), Fail> {
     Ok(())
 }
 
-/// Both seats found 110, and so does who closes the turn.
+/// Both seats find 110, and the closed turn has it too.
 fn both_find(
     rt: &impl Abort,
     found: Option<(Option<i64>, Option<Option<i64>>)>,
@@ -22,7 +22,7 @@ fn both_find(
     assert!(rt; (found, left) == (Some((Some(110), Some(Some(110)))), Some(110)));
 }
 
-/// What a seat wrote and left, every later holder finds, and the closed turn gives.
+/// Every later holder finds what a seat wrote and left, and the closed turn gives it.
 #[test]
 fn two_seats_over_a_counter(rt: HostRuntime) -> Result<(), Fail> {
     let (turn, mut seats) = open(rt.alloc(), 200, 2)?;
@@ -32,7 +32,7 @@ fn two_seats_over_a_counter(rt: HostRuntime) -> Result<(), Fail> {
     Ok(())
 }
 
-/// The same over a board: what a seat offered and left, both seats find, and the closed turn gives.
+/// The same over a board: both seats find what a seat offered and left, and the closed turn gives it.
 #[test]
 fn two_seats(rt: HostRuntime) {
     let model = items(&rt, rt.alloc());
@@ -42,7 +42,7 @@ fn two_seats(rt: HostRuntime) {
     both_find(&rt, found, left);
 }
 
-/// One worker puts a diagram into its book for each subproblem that it finishes; where the book has no room, none.
+/// One worker puts a diagram into its book for each subproblem that it finishes. A book without room stays empty.
 #[test]
 fn one_worker_collects(rt: HostRuntime) {
     let roomy = collected(&rt, rt.alloc(), 1_000_000);

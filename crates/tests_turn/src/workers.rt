@@ -13,9 +13,10 @@ use std::sync::Wait;
 use std::thread::{Threads, join_mut};
 use turn::{NoTurn, Seat, Turn};
 
-/// What one worker needs.
+/// The desk of a worker.
 #[derive(Clone, Copy, Drop)]
 pub struct Desk {
+    /// How many rounds the worker has done.
     pub rounds: u64,
 }
 
@@ -97,7 +98,7 @@ fn beside<R: Threads + Wait + Sync>(
     );
 }
 
-/// The workers side by side. Each has a seat and a desk.
+/// Runs the workers in parallel. Each has a seat and a desk.
 #[cycle(fan)]
 pub fn fan_out<R: Threads + Wait + Sync>(
     rt: &R,
@@ -211,7 +212,7 @@ fn found_by_first<R: Wait>(
     Some(best_found(rt, turn, seat))
 }
 
-/// The seat gives a number back, and tells what it finds then.
+/// The seat gives a number back, and answers what it finds then.
 fn found_after<R: Wait>(
     rt: &R,
     turn: &Turn<Counter>,
@@ -247,7 +248,7 @@ fn meet_first<R: Wait>(
     (again, found_by_first(rt, turn, others))
 }
 
-/// The first seat gives a number back; then it and the second one tell what they find.
+/// The first seat gives a number back. Then it and the second seat answer what they find.
 pub fn meet<R: Wait>(
     rt: &R,
     turn: &Turn<Counter>,

@@ -1,15 +1,21 @@
-//! A turn round one value: its holders come one after another, each from a seat of its own, and each holding is at most one move.
+//! A mutex around one value, with a contract for what its users know. `Turn` is the mutex, `hold` locks it, and `Guard::leave` unlocks
+//! it. Each thread has a `Seat`, the handle by which it locks. Between lock and unlock it makes at most one move: a change that the
+//! type of the value allows.
 //!
-//! `Turn` guards a value whose type says by `Turned` what a move is: it keeps the value's tag, never lowers its seen number, and
-//! changes only what the mover has checked out. A `Seat` is what one thread takes the turn by. In proofs it remembers what it
-//! knows: the seen number when it last left, and the decisions that it then had checked out. `hold` waits for the turn and gives a
-//! `Guard`, which has to be spent by `leave`.
+//! The type of the value implements `Turned`, which says what a move is. A move keeps the tag of the value, never lowers its seen
+//! number, and changes no decisions but those that the mover has out. In proofs a seat knows the seen number at its last `leave`, and
+//! the decisions that it had out at that time.
 //!
-//! It stands on `atomic_table`, and it touches the table by eight kinds of step only: make, split, take, failed take, exchange of
-//! the value, leave, park or wake, and join. It promises, for every interleaving, that what a seat finds has the tag of the value
-//! that the turn was made with, is no less than what the seat has seen, and still has the seat's own decisions out; that `close`
-//! gives a value no less than what any seat has seen, with each seat's decisions still out and no others; and that a refused
-//! `Turn::new` gives the value back. It promises no progress and no fairness.
+//! The crate stands on `atomic_table`. It touches the table by eight kinds of step only: make, split, take, failed take, exchange of
+//! the value, leave, park or wake, and join. It promises for every interleaving:
+//!
+//! - The value that a seat finds has the tag of the first value. Its seen number is no less than what the seat has seen. The decisions
+//!   of the seat are still out.
+//! - `close` gives a value whose seen number is no less than what any seat has seen. The decisions of each seat are still out, and no
+//!   others.
+//! - If `Turn::new` fails, it gives the value back.
+//!
+//! It promises no progress and no fairness.
 //!
 //! ```
 //! let (turn, mut seats) = Turn::new(alloc, board, 2)?;

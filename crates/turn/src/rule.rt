@@ -1,9 +1,10 @@
-//! The rule of the table under a turn, and what its steps tell.
+//! The rule of the table under a turn, and its steps.
 use crate::turned::Turned;
 use crate::view::{SeatView, TurnKey};
 use atomic_table::{Join, Play, Split, TableRule};
 use std::marker::PhantomData;
 
+/// The rule of the table under a turn: the value is in its slot while the word is free, and one seat has it while the word is held.
 pub struct TurnRule<V> {
     of: PhantomData<V>,
 }
@@ -16,7 +17,7 @@ impl<V: Turned> TableRule<Option<V>, SeatView<V>, TurnKey<V>> for TurnRule<V> {
     ghost first = { first_view };
 }
 
-/// A try to take the turn.
+/// The step that tries to take the turn.
 pub struct Take<V> {
     of: PhantomData<V>,
 }
@@ -27,7 +28,7 @@ impl<V: Turned> Play<Option<V>, SeatView<V>> for Take<V> {
     ghost then = { λ _ m n after. Takes V.tag V.seen V.out m n after };
 }
 
-/// The word stored free.
+/// The step that marks the turn as free.
 pub struct Leave<V> {
     of: PhantomData<V>,
 }
@@ -38,7 +39,7 @@ impl<V: Turned> Play<Option<V>, SeatView<V>> for Leave<V> {
     ghost then = { λ _ m _ after. Leaves V.tag V.seen V.out m after };
 }
 
-/// The next seat, of the one that was made last.
+/// The step that splits the next seat off the newest one.
 pub struct SplitSeat;
 
 impl<V> Split<SeatView<V>> for SplitSeat {
@@ -49,7 +50,7 @@ impl<V> Split<SeatView<V>> for SplitSeat {
     ghost right = { next_of };
 }
 
-/// Two seats as one, at closing.
+/// The step that joins two seats into one, when the turn is closed.
 pub struct JoinSeats;
 
 impl<V> Join<SeatView<V>> for JoinSeats {

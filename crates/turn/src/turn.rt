@@ -1,4 +1,4 @@
-//! The turn, its seats and the guard of a holding.
+//! The turn, its seats and its guard.
 ghost use Rattle.std.specs.Prelude.{◌≡◌, ◌≤◌};
 
 use crate::rule::{JoinSeats, Leave, SplitSeat, Take, TurnRule};
@@ -9,21 +9,33 @@ use std::alloc::{AllocError, Global};
 use std::snapshot::Snapshot;
 use std::sync::Wait;
 
-/// Guards one value. It ends in `close`.
+/// The word of the table that says whether the turn is free.
+const WORD: usize = 0;
+
+/// The slot of the table that has the value while the turn is free.
+const SLOT: usize = 0;
+
+/// The word while the turn is free.
+const FREE: u64 = 0;
+
+/// The word while a seat holds the turn.
+const HELD: u64 = 1;
+
+/// A mutex that guards one value. `close` ends it and gives the value back.
 pub struct Turn<V: Turned> {
     table: Table<Option<V>, SeatView<V>, TurnKey<V>, TurnRule<V>, Global>,
     ghost sized: { (table.shared.table_id.words ≡ 1) × (table.shared.table_id.slots ≡ 1) },
     ghost some_seat: { 1 ≤ table.shared.key.seats },
 }
 
-/// What one thread takes the turn by.
+/// The handle by which one thread locks the turn.
 pub struct Seat<V> {
     place: atomic_table::Seat<Option<V>, SeatView<V>>,
     number: u32,
     ghost number_is: { place.me.0.number ≡ number },
 }
 
-/// The turn is held. It has no `Drop`, so it ends in `leave`.
+/// The turn is locked. A guard has no `Drop`: `leave` unlocks the turn.
 pub struct Guard<'a, V: Turned> {
     turn: &'a Turn<V>,
     seat: &'a mut Seat<V>,
@@ -31,14 +43,16 @@ pub struct Guard<'a, V: Turned> {
     found: Snapshot<V>,
 }
 
-/// There was no memory. The value comes back as it was.
+/// The error of `Turn::new`: there was no memory.
 pub struct NoTurn<V> {
+    /// The value, as it was passed.
     pub value: V,
+    /// The refusal of the allocator.
     pub cause: AllocError,
 }
 
 impl<V> Seat<V> {
-    /// The seats of a turn are numbered from 0.
+    /// The number of the seat. The seats of a turn are numbered from 0 in the order in which `Turn::new` lists them.
     pub fn number(&self) -> u32
         ensures { result ≡ self.now.number }
     {
@@ -53,7 +67,8 @@ impl<V: Turned> Turn<V> {
     ghost use Rattle.turn.specs.Order.{NoLess};
     ghost use Rattle.turn.specs.Seats.{first_of, seats_of, seen_of, out_of, left_by, number_of, IsSeatOf, IsFresh, IsHolding, IsMaker, IsWhole};
 
-    /// A turn over the value, with this many seats. Fails only for want of memory, and then the value comes back as it was.
+    /// A turn over the value, with this many seats, at least one. No number has decisions out at the value. Fails only for want of
+    /// memory, and then gives the value back.
     pub fn new(alloc: Global, value: V, seats: u32) -> Result<(Turn<V>, Vec<Seat<V>>), NoTurn<V>>
         requires some { 1 ≤ seats }
         requires home { (number : ℕ) → V.out value number ≡ None }
@@ -81,7 +96,7 @@ impl<V: Turned> Turn<V> {
             seats: seats as u64,
         };
         slots.push_reserved(Some(value));
-        match Table::new(alloc, &[0], slots, &key) {
+        match Table::new(alloc, &[FREE], slots, &key) {
             Ok((table, place)) => {
                 let turn = Turn { table };
                 let made = turn.make_seats(place, seats, made);
@@ -102,7 +117,7 @@ impl<V: Turned> Turn<V> {
         }
     }
 
-    /// Makes all seats of the first one.
+    /// Splits the first place into one place for each seat.
     fn make_seats(
         &self,
         first: atomic_table::Seat<Option<V>, SeatView<V>>,
@@ -128,7 +143,9 @@ impl<V: Turned> Turn<V> {
         made
     }
 
-    /// Waits until the turn is free, and takes it.
+    /// Locks the turn: waits until it is free and takes it.
+    ///
+    /// The seat is one of this turn's, and no guard of the seat is left.
     pub fn hold<'a, R: Wait>(&'a self, rt: &R, seat: &'a mut Seat<V>) -> Guard<'a, V>
         requires { IsSeatOf self.now seat.old }
         ensures turn { result.turn.now ≡ self.now }
@@ -150,7 +167,7 @@ impl<V: Turned> Turn<V> {
         }
     }
 
-    /// Waits until the turn is free, and takes it. The value is out then.
+    /// Waits until the turn is free, and takes the value out of it.
     fn take<R: Wait>(&self, rt: &R, seat: &mut Seat<V>) -> V
         requires { IsSeatOf self.now seat.old }
         ensures number { seat.new.number ≡ seat.old.number }
@@ -161,15 +178,15 @@ impl<V: Turned> Turn<V> {
     {
         let shared = &self.table.shared;
         for _ in rt.forever() {
-            if shared.compare_exchange::<Take<V>>(&mut seat.place, 0, 0, 1) == 0 {
-                return shared.exchange(&mut seat.place, 0, None).unwrap();
+            if shared.compare_exchange::<Take<V>>(&mut seat.place, WORD, FREE, HELD) == FREE {
+                return shared.exchange(&mut seat.place, SLOT, None).unwrap();
             }
-            shared.park(rt, 0, 1);
+            shared.park(rt, WORD, HELD as u32);
         }
         unreachable!()
     }
 
-    /// Puts the value in, frees the turn, and wakes one who waits.
+    /// Puts the value back, frees the turn, and wakes one thread that waits for it.
     fn free(&self, seat: &mut Seat<V>, value: V, found: Snapshot<V>)
         requires holds { IsHolding self.now seat.old found.value }
         requires moves { (value ≡ found.value) ⊎ V.moves found.value value seat.old.number }
@@ -180,21 +197,21 @@ impl<V: Turned> Turn<V> {
         ensures left { left_by seat.new ≡ Some value }
     {
         let shared = &self.table.shared;
-        let old = shared.exchange(&mut seat.place, 0, Some(value));
+        let old = shared.exchange(&mut seat.place, SLOT, Some(value));
         let None = old else { unreachable!() };
-        shared.store::<Leave<V>>(&mut seat.place, 0, 0);
-        shared.wake_one(0);
+        shared.store::<Leave<V>>(&mut seat.place, WORD, FREE);
+        shared.wake_one(WORD);
     }
 
-    /// Waits, and may return at any time. It sleeps only while the turn is held, and a leave wakes one who sleeps.
+    /// Waits, and may return at any time. It sleeps only while the turn is locked. Each `leave` wakes one thread that sleeps.
     pub fn wait_turn<R: Wait>(&self, rt: &R, seat: &mut Seat<V>)
         requires { IsSeatOf self.now seat.old }
         ensures { seat.new ≡ seat.old }
     {
-        self.table.shared.park(rt, 0, 1);
+        self.table.shared.park(rt, WORD, HELD as u32);
     }
 
-    /// One place for all seats, which has seen what any of them saw.
+    /// Joins all seats into one place, which has seen what any of them has seen.
     fn join_seats(&self, mut seats: Vec<Seat<V>>) -> atomic_table::Seat<Option<V>, SeatView<V>>
         requires all { vec_len seats ≡ seats_of self.now }
         requires own { All (IsSeatOf self.now) seats.items }
@@ -215,7 +232,9 @@ impl<V: Turned> Turn<V> {
         one
     }
 
-    /// Ends the turn, and gives the value back. It takes no memory.
+    /// Ends the turn and gives the value back. It takes no memory.
+    ///
+    /// `seats` are all seats of this turn.
     pub fn close(self, seats: Vec<Seat<V>>) -> V
         requires all { vec_len seats ≡ seats_of self }
         requires own { All (IsSeatOf self) seats.items }
@@ -228,7 +247,7 @@ impl<V: Turned> Turn<V> {
         let place = self.join_seats(seats);
         let Turn { table } = self;
         let mut closed = table.close_with(place);
-        let slot = closed.take(0);
+        let slot = closed.take(SLOT);
         closed.free();
         let Some(value) = slot else { unreachable!() };
         value
@@ -249,7 +268,9 @@ impl<'a, V: Turned> Guard<'a, V> {
         &mut self.value
     }
 
-    /// Frees the turn, and wakes one who waits. The value is as it was found, or one move of this seat's number away.
+    /// Unlocks the turn, and wakes one thread that waits for it.
+    ///
+    /// The value is as `hold` found it, or one move of this seat's number after that.
     pub fn leave(self)
         requires holds { IsHolding self.turn.now self.seat.now self.found.value }
         requires moves { (self.value ≡ self.found.value) ⊎ V.moves self.found.value self.value self.seat.now.number }
@@ -269,7 +290,7 @@ impl<'a, V: Turned> Guard<'a, V> {
     }
 }
 
-/// The seat of this number at a place.
+/// The seat with this place and this number.
 fn seat_at<V>(place: atomic_table::Seat<Option<V>, SeatView<V>>, number: u32) -> Seat<V>
     requires { place.me.0.number ≡ number }
     ensures { (result.place ≡ place) × (result.number ≡ number) }

@@ -22,11 +22,11 @@ compare_exchange-requires g c =
 
 pub exchange-requires : goal.exchange-requires
 exchange-requires g c =
-    let t = c.compare_exchange.ensures.2.0 c.if-compare_exchange-eq0.true in
+    let t = c.compare_exchange.ensures.2.0 c.if-compare_exchange-eq-FREE.true in
     let at = ap (λ m. m.1) t.1 in
     (c.compare_exchange.ensures.0 ∙ (c.loop.invariant.0 ∙ c.requires.table_is), (Some t.0, at ∙ ap (λ l. (0, Some t.0) ∷ rest l) (sym at)))
 
 pub loop-preserved : goal.loop-preserved
 loop-preserved g c =
     let e = c.compare_exchange.ensures in
-    (e.0 ∙ c.loop.invariant.0, e.2.1 c.if-compare_exchange-eq0.false ∙ c.loop.invariant.1, c.loop.invariant.2)
+    (e.0 ∙ c.loop.invariant.0, e.2.1 c.if-compare_exchange-eq-FREE.false ∙ c.loop.invariant.1, c.loop.invariant.2)
