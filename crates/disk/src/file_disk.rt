@@ -78,7 +78,8 @@ fn open_alone<R: Files<File = File>>(rt: &R, name: &str) -> io::Result<File>
         .write(true)
         .create(true)
         .open(rt, name)?;
-    // What was opened first may have that of a stream that is closed. Its clone has not, and the first is closed here.
+    // The first handle may have the descriptor of a closed standard stream. Its clone gets one of 3 or above, and the first handle is
+    // closed on return.
     let file = opened.try_clone()?;
     if file.as_raw_fd() < LEAST_DESCRIPTOR {
         return Err(io::Error::from(ErrorKind::Other));

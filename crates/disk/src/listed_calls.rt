@@ -6,7 +6,7 @@ ghost use Rattle.disk.specs.Memory.{Fails, fewer};
 #[derive(Debug, Drop)]
 pub(crate) struct ListedCalls {
     pub(crate) failing: Vec<u64>,
-    /// How many calls were made. It stops at the last number, by which all later calls go.
+    /// How many calls were made. The count stops at `u64::MAX`, which is then the number of each later call.
     pub(crate) made: u64,
     /// How many calls pass before each one fails, where a fuse is set.
     pub(crate) fuse: Option<u64>,

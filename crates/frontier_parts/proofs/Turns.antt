@@ -9,7 +9,7 @@ use Rattle.frontier_parts.specs.Dealing.{part_of, is_dealt, dealt_to}
 below-next : (k : ℕ) → below (k + 1) ≡ below k ++ k ∷ []
 below-next k = let next : k + 1 ≡ suc k = omega arith in rw next refl
 
-pub passed_next : (p : ℕ → Bool) (k : ℕ) → filter p (below (k + 1)) ≡ filter p (below k) ++ cond (p k) (k ∷ []) []
+passed_next : (p : ℕ → Bool) (k : ℕ) → filter p (below (k + 1)) ≡ filter p (below k) ++ cond (p k) (k ∷ []) []
 passed_next p k = ap (filter p) (below-next k) ∙ filter-append p (below k) (k ∷ [])
 
 one-long : (b : Bool) (k : ℕ) → length {A = ℕ} (cond b (k ∷ []) []) ≡ cond b 1 0

@@ -1,11 +1,8 @@
 //! Prefixes are dealt out to parts in turn, by their bounds.
 
-ghost use Rattle.std.specs.Prelude.{◌≡◌, ℕ, ◌<◌, ◌≤◌, ◌++◌, ℤ, List, [], ◌∷◌, cond, length, IfOk, OnOk};
+ghost use Rattle.std.specs.Prelude.{◌≡◌, ℕ, ◌<◌, ◌≤◌, ℤ, List, cond, length};
 ghost use Rattle.dp_model.proofs.Members.{Has};
 ghost use Rattle.frontier_parts.specs.Dealing.{goes_first, turn_of, part_of, is_dealt, dealt_to};
-
-use dp_model::OutOfMemory;
-use std::alloc::Global;
 
 /// Whether one place is dealt out before another: the greater bound goes first, and of equal ones the first place.
 fn goes_first(bounds: &[i64], place: usize, other: usize) -> bool
@@ -41,44 +38,16 @@ fn turn_of(bounds: &[i64], place: usize) -> usize
     before
 }
 
-/// Whether the place is dealt to the part with this number, of `of` parts, as `deal` deals out. It compares the bound with each other.
+/// Whether the prefix at a place is dealt to the part with the number `index`, of `of` parts. A prefix has the bound at its place.
+///
+/// The prefix with the greatest bound is dealt to part 0, the next one to part 1, and so on in turn; of equal bounds the first place goes
+/// first. The same bounds give the same parts. A call compares the bound of the place with each of the bounds.
 pub fn is_dealt(bounds: &[i64], of: usize, index: usize, place: usize) -> bool
     requires some { 0 < of }
     requires place { place < length bounds.now }
     ensures { result ≡ is_dealt bounds.now of index place }
 {
     turn_of(bounds, place) % of == index
-}
-
-/// Adds the place where it is dealt.
-fn push_if(places: &mut Vec<usize>, place: usize, is_dealt: bool) -> Result<(), OutOfMemory>
-    ensures { OnOk result (places.new.items ≡ places.old.items ++ cond is_dealt (place ∷ []) []) }
-{
-    if is_dealt {
-        places.push(place)?;
-    }
-    Ok(())
-}
-
-/// The places of the prefixes that are dealt to the part with this number, of `of` parts, in order. A prefix has the bound at its place.
-///
-/// The prefix with the greatest bound is dealt to part 0, the next one to part 1, and so on in turn; of equal bounds the first place goes
-/// first. The same bounds give the same parts. It compares each two bounds, and fails only for want of memory.
-#[tactic(auto, using(crate::proofs::Turns::passed_next))]
-pub fn deal(
-    alloc: Global,
-    bounds: &[i64],
-    of: usize,
-    index: usize,
-) -> Result<Vec<usize>, OutOfMemory>
-    requires { 0 < of }
-    ensures { IfOk result (λ places. places.items ≡ dealt_to bounds.now of index) }
-{
-    let mut places = Vec::new(alloc);
-    for place in 0..bounds.len() {
-        push_if(&mut places, place, is_dealt(bounds, of, index, place))?;
-    }
-    Ok(places)
 }
 
 /// Each place is dealt to its own part, which is one of the parts, and to no other.

@@ -1,7 +1,8 @@
 //! A search that is dealt out by prefixes, and how what is known of its parts is joined.
 //!
-//! It stands on `dp_model`, on lemmas of `dp_laws`, on `bound_cover` for covers, and on `board_laws` for searches. `deal` deals prefixes out to parts in turn, by their
-//! bounds, and `join_values` gives the greatest of an incumbent and of the values of the parts. Both work on values alone.
+//! It stands on `dp_model`, on lemmas of `dp_laws`, on `bound_cover` for covers, and on `board_laws` for searches. `is_dealt` says whether
+//! a prefix goes to a part: prefixes are dealt out in turn, by their bounds. `join_values` gives the greatest of an incumbent and of the
+//! values of the parts. Both work on values alone.
 //!
 //! The functions without parameters are laws. Where an incumbent and prefixes cover all solutions and each prefix is settled, the joined
 //! value is the best one, and within a distance no solution is further above it (`parts_join`); so are the parts of the frontier of a
@@ -15,8 +16,8 @@
 //! to which part a prefix is dealt, and `specs/CoversBelow.antt` what a cover below a prefix is.
 //!
 //! ```
-//! // Of two parts the first, where the greatest bound goes first: the places 0 and 1. Then the greatest value, 12, with its place.
-//! let places = deal(alloc, &[20, 5, 12], 2, 0)?;
+//! // The prefix with the greatest bound goes to the first of two parts. The greatest value is 12, at place 0.
+//! let first = is_dealt(&[20, 5, 12], 2, 0, 0);
 //! let joined = join_values(Some(7), &[Some(12), None]);
 //! ```
 #![tactic(auto)]
@@ -29,7 +30,7 @@ mod settled;
 mod splitting;
 
 pub use covers::covers_join;
-pub use dealing::{deal, dealt_to_one, is_dealt};
+pub use dealing::{dealt_to_one, is_dealt};
 pub use joining::{JoinedValue, join_values};
 pub use searches::{boards_bound, boards_settle, frontiers_join, values_settle};
 pub use settled::{parts_join, runs_settle};

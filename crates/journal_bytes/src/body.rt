@@ -5,7 +5,7 @@ ghost use Rattle.journal_bytes.specs.Views.{child_view, incumbent_view, listed_v
 ghost use Rattle.journal_bytes.specs.declared.body.BodyError.TheVariants.{OutOfMemory};
 
 use crate::head::{Part, VERSION};
-use crate::record::{Child, Incumbent, Listed, Record};
+use crate::record::{Child, FINISH_KIND, IMPROVE_KIND, Incumbent, Listed, Record, SNAPSHOT_KIND};
 use std::alloc::{AllocError, AllocFailed, Global};
 
 /// Why a body could not be read.
@@ -245,9 +245,9 @@ pub(crate) fn record_of(
     ensures { Gives record_view result (record_of version (record { kind = kind; body = body.now })) }
 {
     match kind {
-        2 => improve_in(alloc, body),
-        3 => finish_in(alloc, body),
-        4 if version == VERSION => snapshot_in(alloc, body),
+        IMPROVE_KIND => improve_in(alloc, body),
+        FINISH_KIND => finish_in(alloc, body),
+        SNAPSHOT_KIND if version == VERSION => snapshot_in(alloc, body),
         _ => Err(BodyError::Malformed),
     }
 }

@@ -72,7 +72,7 @@ pub(crate) fn read_frames(alloc: Global, file: &[u8]) -> Result<Found, AllocErro
     let mut at: usize = 0;
     for _turn in 0..file.len() {
         let rest = &file[at..];
-        if rest.is_empty() || rest[0] != 1 {
+        if rest.is_empty() || rest[0] != OPEN_GATE {
             return Ok(Found {
                 frames,
                 digest,

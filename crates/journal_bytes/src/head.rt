@@ -1,10 +1,12 @@
 use problem_names::ModelName;
 
-/// The version of the journals of whole searches that are written.
+/// The version of journals that have neither snapshots nor a distance.
+pub(crate) const FIRST_VERSION: u32 = 1;
+
+/// The version in which journals of whole searches are written.
 pub const VERSION: u32 = 2;
 
-/// What stands in the place of a version in the journals of parts of a search: the letters PART. Their head has the part, and their records are those
-/// of version 2.
+/// The version of the journals of parts of a search: the letters PART. Their head has the part, and their records are those of version 2.
 pub const PART_VERSION: u32 = 0x5041_5254;
 
 /// The greatest distance that a head may have: 2^50.

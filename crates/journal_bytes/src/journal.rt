@@ -6,8 +6,8 @@ ghost use Rattle.journal_bytes.specs.Views.{record_view};
 ghost use Rattle.journal_bytes.specs.Journal.{after_head, placed_at, head_of, head_view, model_at, is_distance, is_version, version_of_records, distance_at, within_at, mark_at, text_of, or_malformed, records_from, since_all, journal_in, journal_of, journal_view, Gives};
 
 use crate::body::{BodyError, part_in, record_of, u32_at, u64_at};
-use crate::frames::{FRAME_OVERHEAD, Found, Frame, read_frames};
-use crate::head::{MOST_WITHIN, PART_VERSION, VERSION};
+use crate::frames::{FRAME_OVERHEAD, Found, Frame, HEAD_KIND, read_frames};
+use crate::head::{FIRST_VERSION, MOST_WITHIN, PART_VERSION, VERSION};
 use crate::{Head, Part, Record, Records, Refusal, Tail};
 use problem_names::ModelName;
 use std::alloc::Global;
@@ -65,7 +65,7 @@ fn distance_in(bytes: &[u8]) -> Result<(i64, &[u8]), Refusal>
 fn within_in(version: u32, bytes: &[u8]) -> Result<(i64, &[u8]), Refusal>
     ensures { Gives (λ x. (x.0, x.1.now)) result (or_malformed 0 (within_at version bytes.now)) }
 {
-    if version == 1 {
+    if version == FIRST_VERSION {
         return Ok((0, bytes));
     }
     distance_in(bytes)
@@ -89,14 +89,18 @@ fn mark_in(version: u32, bytes: &[u8]) -> Result<(Option<Part>, &[u8]), Refusal>
 fn is_version(version: u32) -> bool
     ensures { result ≡ is_version version }
 {
-    version == 1 || version == VERSION || version == PART_VERSION
+    version == FIRST_VERSION || version == VERSION || version == PART_VERSION
 }
 
 /// The version of the records in a journal of a version.
 fn version_of_records(version: u32) -> u32
     ensures { result ≡ version_of_records version }
 {
-    if version == 1 { 1 } else { VERSION }
+    if version == FIRST_VERSION {
+        FIRST_VERSION
+    } else {
+        VERSION
+    }
 }
 
 /// The text of a head, which ends its body.
@@ -119,7 +123,7 @@ fn text_in(alloc: Global, bytes: &[u8]) -> Result<Vec<u8>, Refusal>
 fn head_in(alloc: Global, first: &Frame) -> Result<(Head, u32), Refusal>
     ensures { Gives (λ r. head_view r.1 r.0) result (head_of (frame first.now)) }
 {
-    if first.kind != 1 {
+    if first.kind != HEAD_KIND {
         return Err(Refusal::Malformed { offset: 0 });
     }
     let (version, rest) = match u32_at(&first.body) {

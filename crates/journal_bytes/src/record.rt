@@ -4,6 +4,15 @@ ghost use Rattle.journal_bytes.specs.Journal.{since_after};
 ghost use Rattle.journal_bytes.specs.Spelling.{record_kind};
 ghost use Rattle.journal_bytes.specs.Views.{record_view};
 
+/// The kind of an improvement.
+pub(crate) const IMPROVE_KIND: u8 = 2;
+
+/// The kind of a finished subproblem.
+pub(crate) const FINISH_KIND: u8 = 3;
+
+/// The kind of a snapshot.
+pub(crate) const SNAPSHOT_KIND: u8 = 4;
+
 /// A child of a finished subproblem that entered the fringe or replaced another.
 #[derive(Debug, Drop)]
 pub struct Child {
@@ -57,9 +66,9 @@ impl Record {
         ensures { result ≡ record_kind (record_view self.now) }
     {
         match self {
-            Record::Improve { .. } => 2,
-            Record::Finish { .. } => 3,
-            Record::Snapshot { .. } => 4,
+            Record::Improve { .. } => IMPROVE_KIND,
+            Record::Finish { .. } => FINISH_KIND,
+            Record::Snapshot { .. } => SNAPSHOT_KIND,
         }
     }
 

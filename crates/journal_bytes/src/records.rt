@@ -60,13 +60,13 @@ impl Records {
     }
 
     /// How many records stand after the base, which is the last snapshot, or the head where there is none.
-    pub fn len(&self) -> usize
+    pub fn len_after_base(&self) -> usize
         ensures { result ≡ length (after_base self.now.records) }
     {
         count_after(self.records.as_slice())
     }
 
-    /// All of them.
+    /// All records.
     pub fn as_slice(&self) -> &[Record]
         ensures { map record_view result.now ≡ self.now.records }
     {

@@ -3,7 +3,7 @@ ghost use Rattle.journal_bytes.specs.declared.refusal.Refusal.TheVariants.{OutOf
 
 use std::alloc::{AllocError, AllocFailed};
 
-/// Why bytes are not read as a journal: the first such record is told.
+/// Why bytes are not read as a journal: the first cause.
 #[derive(Clone, Copy, Debug, PartialEq, Eq)]
 pub enum Refusal {
     /// There are 0 or 1 bytes, or the first gate is closed.

@@ -1,6 +1,7 @@
 ghost use Rattle.std.specs.Prelude.{◌≡◌, ◌<◌, ◌^◌, ◌++◌, [], ◌∷◌, length, IfOk};
 ghost use Rattle.journal_bytes.specs.Frames.{digest_of, sealed};
 
+use crate::frames::CLOSED_GATE;
 use sha2::{Digest, Sha256};
 use std::alloc::{AllocError, Global};
 
@@ -37,6 +38,6 @@ pub fn seal(
     bytes.extend_from_slice(&count)?;
     bytes.extend_from_slice(body)?;
     bytes.extend_from_slice(&digest)?;
-    bytes.push(0)?;
+    bytes.push(CLOSED_GATE)?;
     Ok((bytes, digest))
 }

@@ -68,7 +68,7 @@ fn file_of(alloc: Global, frames: &[(u8, &[u8])]) -> Result<Vec<u8>, AllocError>
 /// How many records the bytes spell after the head or the last Snapshot, or why they are refused.
 fn count(alloc: Global, bytes: &[u8]) -> Result<usize, Refusal> {
     let (_, records, _) = read_journal(alloc, bytes)?;
-    Ok(records.len())
+    Ok(records.len_after_base())
 }
 
 #[test]

@@ -11,7 +11,7 @@ ghost use Rattle.journal_file.specs.Settled.{IsSettled, IsOpen};
 use crate::AppendError;
 use crate::steps::write_synced;
 use disk::Disk;
-use journal_bytes::{FRAME_OVERHEAD, Record, Tail, record_body, seal};
+use journal_bytes::{FRAME_OVERHEAD, OPEN_GATE, Record, Tail, record_body, seal};
 use std::alloc::Global;
 
 /// Adds a record of a kind and a body, after which this many finished subproblems are counted.
@@ -47,7 +47,7 @@ pub(crate) fn append_frame<D: Disk>(
     }
     let (bytes, digest) = seal(alloc, &tail.digest, kind, body)?;
     write_synced(disk, tail.end + 1, &bytes)?;
-    write_synced(disk, tail.end, &[1])?;
+    write_synced(disk, tail.end, &[OPEN_GATE])?;
     *tail = Tail {
         end: tail.end + size,
         digest,

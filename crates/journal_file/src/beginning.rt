@@ -11,7 +11,7 @@ use crate::adding::append_frame;
 use crate::steps::{probe, write_synced};
 use crate::{AppendError, JournalError};
 use disk::{Disk, DiskFailed};
-use journal_bytes::{Head, Tail, VERSION, head_body};
+use journal_bytes::{CLOSED_GATE, HEAD_KIND, Head, Tail, VERSION, head_body};
 use std::alloc::Global;
 
 /// Sees to it that the file begins with a closed gate; `has_gate` tells that it does.
@@ -31,7 +31,7 @@ fn close_first<D: Disk>(disk: &mut D, has_gate: bool) -> Result<(), DiskFailed>
     if has_gate {
         return Ok(());
     }
-    write_synced(disk, 0, &[0])
+    write_synced(disk, 0, &[CLOSED_GATE])
 }
 
 /// Writes the head of a journal into a file that has none.
@@ -65,7 +65,7 @@ fn add_head<D: Disk>(
         version: VERSION,
         since: 0,
     };
-    append_frame(alloc, disk, &mut tail, 1, &body, 0)?;
+    append_frame(alloc, disk, &mut tail, HEAD_KIND, &body, 0)?;
     Ok(tail)
 }
 

@@ -7,7 +7,7 @@ use disk::DiskFailed;
 use journal_bytes::Refusal;
 use std::alloc::AllocError;
 
-/// Why a journal is not begun, opened or replayed: the first cause is told.
+/// Why a journal is not begun, opened or replayed: the first cause.
 #[derive(Clone, Copy, Debug, PartialEq, Eq)]
 pub enum JournalError {
     /// A call of the disk failed.

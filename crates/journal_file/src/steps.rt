@@ -7,6 +7,7 @@ ghost use Rattle.journal_file.specs.Refusing.{KeepsFromBeginning};
 
 use crate::error::JournalError;
 use disk::{Disk, DiskFailed};
+use journal_bytes::CLOSED_GATE;
 use std::alloc::Global;
 
 /// Writes, and puts it on the disk.
@@ -49,7 +50,8 @@ pub(crate) fn fetch<D: Disk>(alloc: Global, disk: &mut D) -> Result<Vec<u8>, Jou
     Ok(bytes)
 }
 
-/// Syncs, and tells whether the file has two bytes or more of which the first is a closed gate 0, or fewer bytes.
+/// Syncs, and tells whether the file begins with a closed gate: `true` if it has two bytes or more and the first is 0, `false` if it has
+/// 0 or 1 bytes. The error is `Exists` if it has two or more and the first is not 0.
 pub(crate) fn probe<D: Disk>(disk: &mut D) -> Result<bool, JournalError>
     requires { IsTrue (D.attached disk.old) }
     ensures file { IfOk result (λ gate. IsTrue (D.tells disk.old) → IsProbed gate (D.seen disk.old)) }
@@ -73,7 +75,7 @@ pub(crate) fn probe<D: Disk>(disk: &mut D) -> Result<bool, JournalError>
     }
     let mut first = [0u8];
     disk.read_at(0, &mut first)?;
-    if first[0] != 0 {
+    if first[0] != CLOSED_GATE {
         return Err(JournalError::Exists);
     }
     Ok(true)

@@ -38,9 +38,6 @@ StaySound dp starts within n s (r ∷ rs) = IsSoundStateOf dp starts within n s 
 abbrev pub AreSoundOf : Dp → List (List ℕ) → ℤ → List RecordView → Type 0
 AreSoundOf dp starts within rs = StaySound dp starts within 0 (replay_start dp) (from_base rs)
 
--- of a whole search
-abbrev pub AreSoundFrom : Dp → ℤ → ℕ → Replayed → List RecordView → Type 0
-AreSoundFrom dp within n s rs = StaySound dp whole_search within n s rs
-
+-- the records are sound, of a whole search
 abbrev pub AreSound : Dp → ℤ → List RecordView → Type 0
 AreSound dp within rs = AreSoundOf dp whole_search within rs

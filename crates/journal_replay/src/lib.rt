@@ -2,8 +2,8 @@
 //!
 //! It stands on the laws of `board_laws`, on the board of `board` and on the records of `journal_bytes` and
 //! `journal_file`. `replay` begins with the base, which is the last snapshot among the records, or the start of the search where there
-//! is none. It follows the records from there and restores the board that they lead to, or tells the first record from the base on
-//! that may not follow where it stands. Each function that has no parameters is a law: its body is
+//! is none. It follows the records from there and restores the board that they lead to, or reports the first record from the base on
+//! that is not valid at its place. Each function that has no parameters is a law: its body is
 //! empty, and its contract is what is proved. A board that a search began with or that was restored stands beside its records:
 //! whatever is out or open is listed. Each step that is allowed keeps it so, with the one record that tells of the step; on a
 //! good board the records stay sound, and sound records are restored to a good board.

@@ -93,13 +93,19 @@ fn restore<M: DpModel>(
 ///
 /// # Errors
 ///
-/// For the first record from the base on that may not follow where it stands, with its offset: `NoSolution` exactly where it is an
-/// improvement by what is no feasible solution, or a snapshot with such an incumbent, else `Malformed`: the value of an improvement
-/// is not that of its decisions or not greater than the incumbent's, a finished ticket is not listed, a child is no prefix that
-/// properly extends the finished one and is shorter than a solution, its bound exceeds 2^62 in size, what it replaces is not listed
-/// with its depth and state, or fewer tickets are left than there are children; and at the base, the value of the incumbent is not
-/// that of its decisions, the tickets do not rise or one is not below the next ticket, or a subproblem is no prefix shorter than a
-/// solution or its bound exceeds 2^62 in size. What stands before the base is not looked at. No other but `OutOfMemory`.
+/// The error is for the first record from the base on that is not valid at its place. It has the offset of that record.
+///
+/// - `NoSolution` exactly if the decisions of an improvement, or of the incumbent of a snapshot, are no feasible solution.
+/// - Otherwise `Malformed`, and one of these is wrong:
+///   - an improvement: its value is not that of its decisions, or is not greater than that of the incumbent;
+///   - a finished subproblem: its ticket is not listed, or fewer tickets are left than it has children;
+///   - a child: it is no prefix that properly extends the finished one and is shorter than a solution, its bound exceeds 2^62 in size, or
+///     the subproblem that it replaces is not listed with its depth and state;
+///   - the snapshot at the base: the value of its incumbent is not that of the decisions, the tickets do not rise or one is not below the
+///     next ticket, or a subproblem is no prefix shorter than a solution or has a bound that exceeds 2^62 in size.
+/// - `OutOfMemory` if there is too little memory.
+///
+/// Records before the base are not checked.
 pub fn replay<M: DpModel>(
     alloc: Global,
     records: &Records,

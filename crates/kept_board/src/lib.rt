@@ -3,10 +3,11 @@
 //!
 //! `Kept` holds a board of `board` beside a disk, and offers the steps of the board. Its record is added by `journal_file`,
 //! whose crash clauses it hands on: a crash at any moment leaves a file with the records from before, or these and the new one.
-//! What `journal_replay` makes of the records is the board all along, so whoever reads such a file has what was acknowledged. After this many
-//! finished subproblems a snapshot of the board is due: with it a reader begins there, and not at the start of the search. The journal of a
-//! part of a search takes snapshots too. `snapshot_of` gives the snapshot of a board that is in no journal.
-//! After a turn of `turn` a move is one step with its record; without a journal it is a board like any other.
+//! What `journal_replay` makes of the records is the board all along, so whoever reads such a file has what was acknowledged. A snapshot
+//! of the board is due after `every` finished subproblems, a number that `Kept::new` takes. A reader begins at the last snapshot instead of the
+//! start of the search. The journal of a part of a search takes snapshots too. `snapshot_of` gives the snapshot of a board that is in no journal.
+//! Under a turn of `turn`, a move is one step with its record, a snapshot, a record that the disk refused, or nothing. Without a journal,
+//! `Kept` writes nothing and does what its board does.
 //!
 //! ```
 //! let mut kept = Kept::new(board, disk, Some(tail), 1024);

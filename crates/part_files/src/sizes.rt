@@ -7,16 +7,13 @@ ghost use Rattle.journal_bytes.specs.Spelling.{mark_size, record_size};
 ghost use Rattle.journal_bytes.specs.Views.{record_view};
 ghost use Rattle.part_files.specs.Fitting.{are_short};
 
-use journal_bytes::{Head, Part, Record, body_size};
+use journal_bytes::{BODY_LIMIT, Head, Part, Record, body_size};
 
 /// The bytes of a head beside its part and its text: the version, the problem, the distance and the length of the text.
 const HEAD_FIELDS: u64 = 17;
 
 /// The bytes of a part: its number, how many parts there are, and a digest.
 const PART_FIELDS: u64 = 40;
-
-/// How many bytes a body has at most, and one more: `2^32`.
-const LENGTHS: u64 = 0x1_0000_0000;
 
 /// The bytes of a part, or of none.
 fn mark_size(part: &Option<Part>) -> u64
@@ -40,7 +37,7 @@ fn is_short_record(entry: &Record) -> bool
     ensures { result ≡ nat_lt (record_size (record_view entry.now)) (2 ^ 32) }
 {
     match body_size(entry) {
-        Some(size) => size < LENGTHS,
+        Some(size) => size < BODY_LIMIT,
         None => false,
     }
 }
@@ -49,5 +46,5 @@ fn is_short_record(entry: &Record) -> bool
 pub(crate) fn are_short(head: &Head, entry: &Record) -> bool
     ensures { result ≡ are_short (new_head head.now) (record_view entry.now) }
 {
-    head_size(head) < LENGTHS && is_short_record(entry)
+    head_size(head) < BODY_LIMIT && is_short_record(entry)
 }

@@ -7,17 +7,10 @@ ghost use Rattle.part_files.specs.Fitting.{are_short};
 
 use crate::error::PartError;
 use crate::sizes::are_short;
-use journal_bytes::{Head, Record, head_body, record_body, seal};
+use journal_bytes::{
+    CLOSED_GATE, HEAD_KIND, Head, OPEN_GATE, Record, head_body, record_body, seal,
+};
 use std::alloc::{AllocError, Global};
-
-/// The gate before a record that is whole.
-const OPEN_GATE: u8 = 1;
-
-/// The gate after the last record.
-const CLOSED_GATE: u8 = 0;
-
-/// The kind of a head.
-const HEAD_KIND: u8 = 1;
 
 /// Adds an open gate and what stands after it of a record of a kind and a body, and gives the digest.
 fn push_frame(

@@ -8,7 +8,7 @@ ghost use Rattle.part_reports.specs.Reports.{report_view, values_told, AreReport
 
 use crate::fault::ReportFault;
 use crate::report::PartReport;
-use crate::testing::first_fault;
+use crate::testing::test_reports;
 use dp_model::DpModel;
 use journal_bytes::Incumbent;
 use std::alloc::Global;
@@ -61,10 +61,6 @@ pub fn best_of_reports<M: DpModel>(
     ensures tested { OnOk result (AreReports (M.meaning (M.numbers model.now)) digest.now (length reports.items) 0 (map report_view reports.items)) }
     ensures refused { IfErr result (Refuses (M.meaning (M.numbers model.now)) digest.now (length reports.items) (map report_view reports.items)) }
 {
-    let mut row = vec![in alloc; 0i64; model.words()]?;
-    let mut spare = vec![in alloc; 0i64; model.words()]?;
-    if let Some(fault) = first_fault(model, digest, reports.as_slice(), &mut row, &mut spare) {
-        return Err(fault);
-    }
+    test_reports(alloc, model, digest, reports.as_slice())?;
     Ok(best_of_all(incumbent, reports))
 }

@@ -6,7 +6,7 @@ ghost use Rattle.part_reports.specs.Reports.{report_view, value_told, values_tol
 
 use crate::fault::ReportFault;
 use crate::report::PartReport;
-use crate::testing::first_fault;
+use crate::testing::test_reports;
 use dp_model::{DpModel, OutOfMemory};
 use frontier_parts::{JoinedValue, join_values};
 use std::alloc::Global;
@@ -55,11 +55,7 @@ pub fn join_reports<M: DpModel>(
     ensures tested { OnOk result (AreReports (M.meaning (M.numbers model.now)) digest.now (length reports.now) 0 (map report_view reports.now)) }
     ensures refused { IfErr result (Refuses (M.meaning (M.numbers model.now)) digest.now (length reports.now) (map report_view reports.now)) }
 {
-    let mut row = vec![in alloc; 0i64; model.words()]?;
-    let mut spare = vec![in alloc; 0i64; model.words()]?;
-    if let Some(fault) = first_fault(model, digest, reports, &mut row, &mut spare) {
-        return Err(fault);
-    }
+    test_reports(alloc, model, digest, reports)?;
     let values = values_told(alloc, reports)?;
     Ok(join_values(incumbent, values.as_slice()))
 }

@@ -1,9 +1,9 @@
 //! Whether there is a report of each part, with a value that its decisions have.
 
-ghost use Rattle.std.specs.Prelude.{◌≡◌, true, length, map, option_map, IfOk, IsTrue};
+ghost use Rattle.std.specs.Prelude.{◌≡◌, true, length, map, option_map, IfErr, IfOk, IsTrue, OnOk};
 ghost use Rattle.std.specs.Str.{bytes_eq};
 ghost use Rattle.journal_bytes.specs.Views.{incumbent_view};
-ghost use Rattle.part_reports.specs.Reports.{report_view, is_of_part, TestGives, FaultGives, FaultsGive, UntestedGives};
+ghost use Rattle.part_reports.specs.Reports.{report_view, is_of_part, AreReports, TestGives, FaultGives, FaultsGive, Refuses, UntestedGives};
 
 use crate::fault::ReportFault;
 use crate::report::PartReport;
@@ -76,7 +76,7 @@ fn fault_at<M: DpModel>(
 }
 
 /// Why the reports are refused: the first fault.
-pub(crate) fn first_fault<M: DpModel>(
+fn first_fault<M: DpModel>(
     model: &M,
     digest: &[u8; 32],
     reports: &[PartReport],
@@ -98,6 +98,24 @@ pub(crate) fn first_fault<M: DpModel>(
         rest = after;
     }
     None
+}
+
+/// Refuses the reports by their first fault.
+pub(crate) fn test_reports<M: DpModel>(
+    alloc: Global,
+    model: &M,
+    digest: &[u8; 32],
+    reports: &[PartReport],
+) -> Result<(), ReportFault>
+    ensures tested { OnOk result (AreReports (M.meaning (M.numbers model.now)) digest.now (length reports.now) 0 (map report_view reports.now)) }
+    ensures refused { IfErr result (Refuses (M.meaning (M.numbers model.now)) digest.now (length reports.now) (map report_view reports.now)) }
+{
+    let mut row = vec![in alloc; 0i64; model.words()]?;
+    let mut spare = vec![in alloc; 0i64; model.words()]?;
+    match first_fault(model, digest, reports, &mut row, &mut spare) {
+        Some(fault) => Err(fault),
+        None => Ok(()),
+    }
 }
 
 /// The place of the first report whose decisions are no feasible solution with its value. `None` if there is no such report. The parts and

@@ -1,6 +1,6 @@
 //! Sources that are read and sinks that are written, each of which counts its faults.
 //!
-//! A program that is generic over `Source` and `Sink` runs over the real outside (`StdSource`, `StdSink`) and over memory
+//! A program that is generic over `Source` and `Sink` runs over the host's readers and writers (`StdSource`, `StdSink`) and over memory
 //! (`MemSource`, `MemSink`), where a test lists the calls that fail. `read_all` reads a source to its end and `write_all`
 //! writes all of some bytes. Each says a fault exactly where one was counted, and what was read or written, where the source
 //! or the sink tells its bytes. The crate stands on std alone.

@@ -7,7 +7,7 @@ use super::Failed;
 #[derive(Debug, Drop)]
 pub(crate) struct ListedCalls {
     failing: Vec<u64>,
-    // How many calls were made. It stops at the last number, by which all later calls go.
+    // How many calls were made. The count stops at `u64::MAX`, which is then the number of each later call.
     made: u64,
     faults: u64,
 }

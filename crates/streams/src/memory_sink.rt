@@ -50,7 +50,7 @@ impl MemSink {
         &self.taken
     }
 
-    /// How many calls of `write` were made. It stops at the last number, by which all later calls go.
+    /// How many calls of `write` were made. The count stops at `u64::MAX`, which is then the number of each later call.
     pub fn calls(&self) -> u64
         ensures { result ≡ self.now.calls }
     {

@@ -53,7 +53,7 @@ impl MemSource {
         &self.bytes[self.at..]
     }
 
-    /// How many calls of `read` were made. It stops at the last number, by which all later calls go.
+    /// How many calls of `read` were made. The count stops at `u64::MAX`, which is then the number of each later call.
     pub fn calls(&self) -> u64
         ensures { result ≡ self.now.calls }
     {

@@ -8,7 +8,7 @@ use std::io;
 use std::io::{ErrorKind, Write};
 use std::marker::Model;
 
-/// A sink over a writer of the real outside, as standard output. It tells no bytes.
+/// A sink over a writer, such as standard output. Its `taken` is `None`: contracts do not know the bytes.
 ///
 /// It counts each error of the writer, and each write that takes nothing of a nonempty piece, both up to `u64::MAX`.
 /// A write that a signal interrupts is tried again, as std's `write_all` does, and is no error; one that would block

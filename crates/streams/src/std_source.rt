@@ -7,7 +7,7 @@ use std::io;
 use std::io::{ErrorKind, Read};
 use std::marker::Model;
 
-/// A source over a reader of the real outside, as standard input. It tells no bytes.
+/// A source over a reader, such as standard input. Its `left` is `None`: contracts do not know the bytes.
 ///
 /// It counts each error of the reader, up to `u64::MAX`. A read that a signal interrupts is tried again, as std's
 /// `read_to_end` does, and is no error; one that would block is an error.

@@ -224,7 +224,7 @@ fn a_search_is_read_back(rt: HostRuntime) {
 fn count(rt: &impl Abort, alloc: Global, disk: &mut MemDisk) -> Count {
     attach(rt, disk);
     let (_, records, _) = reopen(alloc, disk)?;
-    Ok(records.len())
+    Ok(records.len_after_base())
 }
 
 /// How many records are in a file of these bytes.

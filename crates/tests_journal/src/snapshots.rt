@@ -111,7 +111,7 @@ fn written(rt: &impl Abort, alloc: Global, disk: &mut MemDisk) -> Result<Written
     let long = disk.bytes().len();
     disk.attach("j").expect(rt, "attached");
     let (_, records, _) = reopen(alloc, disk)?;
-    Ok((long, records.as_slice().len(), records.len()))
+    Ok((long, records.as_slice().len(), records.len_after_base()))
 }
 
 /// What a search with snapshots writes.

@@ -5,7 +5,7 @@ use Rattle.journal_bytes.specs.Frames.{Frame, reading, reading_of}
 use Rattle.journal_bytes.specs.Found.{frame}
 use Rattle.journal_bytes.proofs.Found.{with_fronts, frame_is, stops, goes, reading_shut, reading_damaged, reading_none}
 use Rattle.journal_bytes.proofs.frames.read_frames.Goals as goal
-use Rattle.journal_bytes.proofs.frames.read_frames.Goals.{then-is_empty-via-then-is_empty, then-is_empty-via-else-is_empty+then-rest-ne1}
+use Rattle.journal_bytes.proofs.frames.read_frames.Goals.{then-is_empty-via-then-is_empty, then-is_empty-via-else-is_empty+then-rest-ne-OPEN_GATE}
 
 -- the rest of a file as the code cuts it
 rest_is : (file : List ℕ) (at : ℕ) → take (length file - at) (drop at file) ≡ drop at file
@@ -18,7 +18,7 @@ returns-then-is_empty-clause-read c =
     let rest : List ℕ = take (length file - l.at) (drop l.at file) in
     let shut : get_or rest 0 0 ≢ 1 = elim c.then-is_empty.branch [
       | then-is_empty-via-then-is_empty w ↦ grind (arith, nat_tests, get_or_past rest 0 0)
-      | then-is_empty-via-else-is_empty+then-rest-ne1 w ↦ w.if-rest-ne1.true
+      | then-is_empty-via-else-is_empty+then-rest-ne-OPEN_GATE w ↦ w.if-rest-ne-OPEN_GATE.true
     ] in
     stops (map frame l.frames.items) (length file - l._turn) l.digest l.at file rest true (reading_of file) (rest_is file l.at)
     (reading_shut (length file - l._turn) (length file - (l._turn + 1)) l.digest l.at rest (omega arith) shut) l.invariant.read
@@ -36,7 +36,7 @@ loop-turn-preserved c =
     let long : length rest ≡ length file - l.at = ap length (rest_is file l.at) ∙ length-drop l.at file in
     record {
       read = ap (λ fs. with_fronts fs (reading (length file - (l._turn + 1)) sound.1 (l.at + (38 + sound.0)) (drop (l.at + (38 + sound.0)) file))) pushed
-          ∙ goes (map frame l.frames.items) (length file - l._turn) (length file - (l._turn + 1)) l.digest sound.1 l.at sound.0 file rest f (reading_of file) (rest_is file l.at) (omega arith) c.if-rest-ne1.false facts.sound facts.size facts.digest (frame_is rest _ sound.0 facts.size copied) l.invariant.read;
+          ∙ goes (map frame l.frames.items) (length file - l._turn) (length file - (l._turn + 1)) l.digest sound.1 l.at sound.0 file rest f (reading_of file) (rest_is file l.at) (omega arith) c.if-rest-ne-OPEN_GATE.false facts.sound facts.size facts.digest (frame_is rest _ sound.0 facts.size copied) l.invariant.read;
       within = omega (arith, facts.within, long);
     }
 
@@ -46,7 +46,7 @@ returns-in_default-clause-read c =
     let l = c.loop-turn in
     let rest : List ℕ = take (length file - l.at) (drop l.at file) in
     stops (map frame l.frames.items) (length file - l._turn) l.digest l.at file rest false (reading_of file) (rest_is file l.at)
-    (reading_damaged (length file - l._turn) (length file - (l._turn + 1)) l.digest l.at rest (omega arith) c.if-rest-ne1.false c.in_default.ensures.damaged) l.invariant.read
+    (reading_damaged (length file - l._turn) (length file - (l._turn + 1)) l.digest l.at rest (omega arith) c.if-rest-ne-OPEN_GATE.false c.in_default.ensures.damaged) l.invariant.read
 
 pub returns-clause-read : goal.returns-clause-read
 returns-clause-read c =
