@@ -1,6 +1,6 @@
 -- A checker as callers see it.
 use Rattle.std.specs.Prelude.{ℕ}
 
--- this many cells has a state of the model that it was prepared for
+-- the number of words of a state of the model that it was prepared for
 pub record CheckerView : Type 0 where
   pub words : ℕ

@@ -105,7 +105,7 @@ to_row_fault dp k i gain step bound d None = Some (Target k i d)
 to_row_fault dp k i gain step bound d (Some next) =
     cond (is_state_row dp (k + 1) next.words) (gap_fault k i d bound gain (dp.gap (k + 1) next.words step) next.bound) (Some (Target k i d))
 
--- the place among all rows of a row of a layer, or none where there is none
+-- the place of a row of a layer that begins at `start` and ends before `end`, or none where the layer has no such row
 abbrev pub place_from : ℕ → ℕ → ℕ → Option ℕ
 place_from row end start = cond (nat_lt row (end - start)) (Some (start + row)) None
 
@@ -117,7 +117,7 @@ place_at starts rows layer row = option_and_then (place_from row (unwrap_or (sli
 abbrev pub count_at : List ℕ → ℕ → ℕ → ℕ
 count_at starts rows layer = unwrap_or (option_map (λ start. unwrap_or (slice_get starts (layer + 1)) rows - start) (slice_get starts layer)) 0
 
--- where a layer begins; one that is not there begins after all rows
+-- where a layer begins; one that does not exist begins after all rows
 abbrev pub start_at : List ℕ → ℕ → ℕ → ℕ
 start_at starts rows layer = unwrap_or (slice_get starts layer) rows
 

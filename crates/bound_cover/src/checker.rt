@@ -67,46 +67,42 @@ impl Checker {
     /// solutions is at most `within` above it: with a distance of 0 it is the value. Where no value is reported, there is no
     /// feasible solution.
     ///
-    /// The checker was prepared for the model, and `within` is a distance. It takes no memory.
+    /// The checker was prepared for the model, and `reported.within` is a distance. It takes no memory.
     pub fn check<M: DpModel>(
         &mut self,
         model: &M,
-        best: Option<i64>,
-        within: i64,
-        assignment: &[u32],
+        reported: Reported<'_>,
         cover: &Cover,
     ) -> Verdict
         requires prepared { self.old.words ≡ (M.meaning (M.numbers model.now)).words }
-        requires distance { IsDistance within }
-        ensures verdict { result ≡ verdict (M.meaning (M.numbers model.now)) best within assignment.now cover.now }
-        ensures near { result ≡ Accepted → IsReportedWithin (M.meaning (M.numbers model.now)) assignment.now best within }
-        ensures sound { result ≡ Accepted → within ≡ pos 0 → IsReportedBest (M.meaning (M.numbers model.now)) assignment.now best }
+        requires distance { IsDistance reported.within }
+        ensures verdict { result ≡ verdict (M.meaning (M.numbers model.now)) reported.entry.best reported.entry.within reported.entry.assignment.now cover.now }
+        ensures near { result ≡ Accepted → IsReportedWithin (M.meaning (M.numbers model.now)) reported.entry.assignment.now reported.entry.best reported.entry.within }
+        ensures sound { result ≡ Accepted → reported.entry.within ≡ pos 0 → IsReportedBest (M.meaning (M.numbers model.now)) reported.entry.assignment.now reported.entry.best }
         ensures same { self.new ≡ self.old }
     {
-        let reported = Reported {
-            best,
-            within,
-            assignment,
-        };
         check(model, reported, cover, &mut self.root, &mut self.step)
     }
 
     /// Begins the tests of a cover whose layers come one after another: tests the assignment and its value.
     ///
-    /// The checker was prepared for the model, and `within` is a distance. It takes no memory.
+    /// The checker was prepared for the model, and `reported.within` is a distance. It takes no memory.
     pub fn begin<M: DpModel>(
         &mut self,
         alloc: Global,
         model: &M,
-        best: Option<i64>,
-        within: i64,
-        assignment: &[u32],
+        reported: Reported<'_>,
     ) -> LayerTests
         requires prepared { self.old.words ≡ (M.meaning (M.numbers model.now)).words }
-        requires distance { IsDistance within }
-        ensures begun { result ≡ begun (M.meaning (M.numbers model.now)) best within assignment.now }
+        requires distance { IsDistance reported.within }
+        ensures begun { result ≡ begun (M.meaning (M.numbers model.now)) reported.entry.best reported.entry.within reported.entry.assignment.now }
         ensures same { self.new ≡ self.old }
     {
+        let Reported {
+            best,
+            within,
+            assignment,
+        } = reported;
         let why = solution_fault(model, best, assignment, &mut self.root, &mut self.step);
         let claim = match why {
             None => claim_of(best, within),

@@ -554,8 +554,11 @@ pub fn claim_of(best: Option<i64>, within: i64) -> Option<i64>
 /// What is reported of a problem: the value of a solution or none, how far below the best value it may lie, and the solution.
 #[derive(Clone, Copy)]
 pub struct Reported<'a> {
+    /// The reported value; none where the report is `infeasible`.
     pub best: Option<i64>,
+    /// How far the best value may be above the reported one, from 0 to 2^50; 0 where none is reported.
     pub within: i64,
+    /// The reported assignment. It is not tested where no value is reported.
     pub assignment: &'a [u32],
 }
 

@@ -65,7 +65,7 @@ fn place_of(starts: &[usize], rows: usize, layer: usize, row: usize) -> Option<u
     }
 }
 
-/// The place among all rows where a layer begins; one that is not there begins after all rows.
+/// The place among all rows where a layer begins; one that does not exist begins after all rows.
 fn start_of(starts: &[usize], rows: usize, layer: usize) -> usize
     ensures { result ≡ start_at starts.now rows layer }
 {
@@ -259,7 +259,7 @@ impl Cover {
         }
     }
 
-    /// The bound of a row, which is there; `None` where the row claims that its state has no continuation.
+    /// The bound of a row that exists; `None` where the row claims that its state has no continuation.
     pub fn bound(&self, layer: usize, row: usize) -> Option<i64>
         requires { row < length (layer_of self.now layer) }
         ensures { option_map (λ r. r.bound) (slice_get (layer_of self.now layer) row) ≡ Some result }
@@ -270,7 +270,7 @@ impl Cover {
         row.bound
     }
 
-    /// The words of a row, which is there.
+    /// The words of a row. The row exists.
     pub fn words(&self, layer: usize, row: usize) -> &[i64]
         requires { row < length (layer_of self.now layer) }
         ensures { option_map (λ r. r.words) (slice_get (layer_of self.now layer) row) ≡ Some result.now }
@@ -281,7 +281,7 @@ impl Cover {
         row.words
     }
 
-    /// The arcs of a row, which is there; `None` exactly where it has no arc part.
+    /// The arcs of a row that exists; `None` exactly where it has no arc part.
     pub fn arcs(&self, layer: usize, row: usize) -> Option<&[CoverArc]>
         requires { row < length (layer_of self.now layer) }
         ensures { option_map (λ r. r.arcs) (slice_get (layer_of self.now layer) row) ≡ Some (option_map (λ a. a.now) result) }
@@ -292,7 +292,7 @@ impl Cover {
         if row.has_arcs { Some(row.arcs) } else { None }
     }
 
-    /// How many rows the layer has, which is there.
+    /// How many rows a layer has. The layer exists.
     pub fn rows(&self, layer: usize) -> usize
         requires { layer < length self.now }
         ensures count { result ≡ length (layer_of self.now layer) }
@@ -301,7 +301,7 @@ impl Cover {
         count_of(self.starts.as_slice(), self.heads.len(), layer)
     }
 
-    /// The rows of a layer, of which there are none where the layer is not there.
+    /// The rows of a layer; none where the layer does not exist.
     pub(crate) fn layer(&self, layer: usize) -> LayerRows<'_>
         ensures { result ≡ layer_of self.now layer }
     {

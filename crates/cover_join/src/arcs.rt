@@ -39,7 +39,7 @@ pub(crate) fn shifted(before: u32, target: Option<u32>) -> Result<Option<u32>, O
     }
 }
 
-/// How many rows the layer has; none where it is not there.
+/// How many rows a layer has; 0 where the layer does not exist.
 #[tactic(auto, using(crate::proofs::Rows::no_rows))]
 pub(crate) fn rows_of(cover: &Cover, layer: usize) -> usize
     ensures count { result ≡ length (layer_of cover.now layer) }

@@ -8,7 +8,7 @@ ghost use Rattle.cover_text.specs.Texts.{text_in};
 ghost use Rattle.cover_join.specs.Joining.{answer_of, answers_in, checks_fault, part_fault, refusal};
 
 use crate::join_error::JoinError;
-use bound_cover::{Checker, Verdict};
+use bound_cover::{Checker, Reported, Verdict};
 use cover_text::CoverText;
 use dp_model::{DpModel, OutOfMemory};
 use parts::Part;
@@ -28,7 +28,12 @@ fn check_part<M: DpModel>(
 {
     let part = Part::new(alloc, Arc::try_clone(model)?, index, of)?;
     let mut checker = Checker::prepare(alloc, &part)?;
-    Ok(checker.check(&part, text.best, 0, text.assignment.as_slice(), &text.cover))
+    let reported = Reported {
+        best: text.best,
+        within: 0,
+        assignment: text.assignment.as_slice(),
+    };
+    Ok(checker.check(&part, reported, &text.cover))
 }
 
 /// The refusal of the part with this number, where the verdict is one.

@@ -8,7 +8,8 @@ ghost use Rattle.cover_text.specs.Texts.{text_in};
 ghost use Rattle.cover_join.specs.Joined.{best_answer, is_root_row, root_arcs, have_arcs};
 ghost use Rattle.cover_join.specs.Joining.{answer_of, answers_in};
 
-use bound_cover::{Cover, CoverArc, is_at_most, is_sum_within};
+use crate::arcs::rows_of;
+use bound_cover::{CoverArc, is_at_most, is_sum_within};
 use cover_text::CoverText;
 use dp_model::{DpModel, OutOfMemory, row_same};
 
@@ -61,16 +62,6 @@ fn is_root_row<M: DpModel>(model: &M, root: &[i64], text: &CoverText, row: usize
         && is_within(text.cover.bound(0, row), text.best, model.root_value())
 }
 
-/// How many rows the first layer has.
-fn first_rows(cover: &Cover) -> usize
-    ensures { result ≡ length (layer_of cover.now 0) }
-{
-    if cover.layers() == 0 {
-        return 0;
-    }
-    cover.rows(0)
-}
-
 /// The arcs of the first row that is the root within the value; none where it has no arc part, or there is no such row.
 #[tactic(auto, using(crate::proofs::RootRows::root_steps))]
 pub(crate) fn root_arcs<'t, M: DpModel>(
@@ -81,7 +72,7 @@ pub(crate) fn root_arcs<'t, M: DpModel>(
     requires { root.now ≡ (M.meaning (M.numbers model.now)).root }
     ensures { option_map (λ a. a.now) result ≡ root_arcs (M.meaning (M.numbers model.now)) (answer_of (text_in text.now)) }
 {
-    for row in 0..first_rows(&text.cover) {
+    for row in 0..rows_of(&text.cover, 0) {
         if is_root_row(model, root, text, row) {
             return text.cover.arcs(0, row);
         }

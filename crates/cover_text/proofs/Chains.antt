@@ -1,6 +1,6 @@
 -- A chain of tokens, step by step: what it gives where there was a fault.
 use Rattle.std.proofs.Common.{◌≡◌, ℕ, ◌-◌, ◌<◌, Bool, false, ◌∙◌, sym, refl}
-use Rattle.std.specs.Prelude.{Result, Err}
+use Rattle.std.specs.Prelude.{Result}
 use Rattle.tokens.specs.Text.{TextState}
 use Rattle.tokens.proofs.Chains.{until_more, until_ends, until_done, until_faults}
 use Rattle.cover_text.specs.Grammar.{CoverError, part_then, passed_then, until, Fails}

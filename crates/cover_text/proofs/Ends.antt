@@ -1,17 +1,15 @@
 -- Where the sections of a text end, and texts one after another.
-use Rattle.std.proofs.Common.{◌≡◌, ℕ, zero, suc, ◌+◌, ◌-◌, ◌<◌, ◌≤◌, Bool, true, false, ◌&&◌, cond, List, [], ◌∷◌, ◌++◌, length, map, take, drop, refl, sym, ap, ◌∙◌, subst, arith, nat_eq}
-use Rattle.std.specs.Prelude.{min, codes, Result, Ok, Err}
+use Rattle.std.proofs.Common.{◌≡◌, ℕ, suc, ◌+◌, ◌-◌, ◌<◌, ◌≤◌, Bool, true, false, ◌&&◌, List, [], ◌∷◌, ◌++◌, length, map, take, refl, sym, ap, ◌∙◌, subst, arith, nat_eq}
+use Rattle.std.specs.Prelude.{min, codes, Result, Ok}
 use Rattle.std.proofs.lemmas.Bool.{and_right}
 use Rattle.std.proofs.lemmas.List.{map-append}
 use Rattle.dp_model.specs.Lists.{Each}
-use Rattle.tokens.specs.declared.place.Place.{Place}
 use Rattle.problem_names.specs.ModelNames.{word_same}
 use Rattle.cover_text.specs.declared.cover_text.CoverText.{CoverText}
 use Rattle.cover_text.specs.declared.cover_error.CoverError.TheVariants.{Text, Word, OutOfMemory}
 use Rattle.cover_text.specs.Grammar.{CoverError, Fails}
-use Rattle.cover_text.specs.Instances.{moved}
 use Rattle.cover_text.specs.Several.{begins_blank, begins_end, size_to_end, is_over, text_at, texts_from}
-use Rattle.cover_text.specs.Texts.{CoverTextView, and_then, moved_by, text_in}
+use Rattle.cover_text.specs.Texts.{CoverTextView, and_then, text_in}
 use Rattle.cover_text.proofs.InTurn.{moved-fails}
 
 -- ---- the word end

@@ -6,7 +6,7 @@ use Rattle.std.proofs.Math.Seq.{take-append_seam, drop-append_seam}
 use Rattle.std.proofs.lemmas.Bool.{and_parts, not-true}
 use Rattle.std.proofs.lemmas.Bool.Decides.{nat_tests}
 use Rattle.tokens.specs.Text.{is_blank, is_solid}
-use Rattle.tokens.specs.Decimal.{decimal_of}
+use Rattle.tokens.specs.Decimal.{decimal_of, after_spaces}
 use Rattle.tokens.proofs.Digits.{is_printed}
 use Rattle.dp_model.specs.Lists.{Each}
 use Rattle.bound_cover.specs.Covers.{CoverRow}
@@ -17,7 +17,7 @@ use Rattle.problem_names.specs.declared.part.PartNumber.{PartNumber}
 use Rattle.cover_text.proofs.EachName.{for_each}
 use Rattle.cover_text.specs.Heads.{ClaimView}
 use Rattle.cover_text.specs.Instances.{after_lines, parted}
-use Rattle.cover_text.specs.Outputs.{spaced, CountsView, printed_lines, proved_text, claim_lines, counts_lines, part_lines, cover_lines, printed_output, IsToldClaim, MayBeCounts}
+use Rattle.cover_text.specs.Outputs.{CountsView, printed_lines, proved_text, claim_lines, counts_lines, cover_lines, printed_output, IsToldClaim, MayBeCounts}
 use Rattle.dp_model.specs.Distances.{IsDistance}
 use Rattle.cover_text.specs.Printed.{printed_cover}
 use Rattle.cover_text.specs.Texts.{text_of}
@@ -42,11 +42,11 @@ over-number l z rest small =
     let p = is_printed z small in
     subst (λ w. after_lines (suc l) (w ++ rest) ≡ after_lines (suc l) rest) (sym p.printed_is) (over-solid l (p.first ∷ p.others) rest p.solid)
 
-over-spaced : (l : ℕ) (ds rest : List ℕ) → Each (λ d. d < 2 ^ 32) ds → after_lines (suc l) (spaced ds ++ rest) ≡ after_lines (suc l) rest
+over-spaced : (l : ℕ) (ds rest : List ℕ) → Each (λ d. d < 2 ^ 32) ds → after_lines (suc l) (after_spaces ds ++ rest) ≡ after_lines (suc l) rest
 over-spaced l [] rest held = refl
 over-spaced l (d ∷ ds) rest held =
     let few = held.0 in
-    ap (after_lines (suc l)) (append_assoc (decimal_of (pos d)) (spaced ds) rest) ∙ (over-number l (pos d) (spaced ds ++ rest) (omega arith) ∙ over-spaced l ds rest held.1)
+    ap (after_lines (suc l)) (append_assoc (decimal_of (pos d)) (after_spaces ds) rest) ∙ (over-number l (pos d) (after_spaces ds ++ rest) (omega arith) ∙ over-spaced l ds rest held.1)
 
 -- the first line of a report ends after its distance
 over-distance : (l : ℕ) (told : Bool) (within : ℤ) (rest : List ℕ) → IsDistance within → after_lines (suc l) (distance_text told within ++ (10 ∷ rest)) ≡ after_lines l rest
@@ -65,7 +65,7 @@ counts_down (Some counts) l = suc (suc l)
 following-claim : (most : ℕ) (best : Option ℤ) (within : ℤ) (ds more : List ℕ) (l : ℕ) → MayBeClaim most best within ds → after_lines (claim_down best l) (claim_then best within ds more) ≡ after_lines l more
 following-claim most None within ds more l fits = refl
 following-claim most (Some value) within ds more l fits =
-    let third = codes "assignment" ++ (spaced ds ++ (10 ∷ more)) in
+    let third = codes "assignment" ++ (after_spaces ds ++ (10 ∷ more)) in
     over-distance (suc (suc l)) (int_lt (pos 0) within) within (codes "value" ++ (32 ∷ (decimal_of value ++ (10 ∷ third)))) fits.1.0
     ∙ (over-number (suc l) value (10 ∷ third) (word-small value fits.0) ∙ over-spaced l ds (10 ∷ more) fits.1.1.0)
 
@@ -124,14 +124,14 @@ parted-there bytes instance following lines is =
 
 -- ---- the whole output
 
-spaced-few : (ds : List ℕ) → length ds ≤ length (spaced ds)
+spaced-few : (ds : List ℕ) → length ds ≤ length (after_spaces ds)
 spaced-few [] = omega arith
-spaced-few (d ∷ ds) = omega (arith, length-append (decimal_of (pos d)) (spaced ds), spaced-few ds)
+spaced-few (d ∷ ds) = omega (arith, length-append (decimal_of (pos d)) (after_spaces ds), spaced-few ds)
 
 claim-few : (best : Option ℤ) (within : ℤ) (ds more : List ℕ) → IsToldClaim best within ds → MayBeClaim (length (claim_then best within ds more)) best within ds
 claim-few None within ds more told = told
 claim-few (Some value) within ds more told =
-    let last = spaced ds ++ (10 ∷ more) in
+    let last = after_spaces ds ++ (10 ∷ more) in
     let third = codes "assignment" ++ last in
     let second = decimal_of value ++ (10 ∷ third) in
     let first = codes "value" ++ (32 ∷ second) in
@@ -141,7 +141,7 @@ claim-few (Some value) within ds more told =
     let two = length-append (codes "value") (32 ∷ second) in
     let three = length-append (decimal_of value) (10 ∷ third) in
     let four = length-append (codes "assignment") last in
-    let five = length-append (spaced ds) (10 ∷ more) in
+    let five = length-append (after_spaces ds) (10 ∷ more) in
     (told.0, (told.1, (told.2, omega (arith, spaced-few ds))))
 
 -- a line, and the others after it
@@ -159,7 +159,7 @@ claim-parts : (best : Option ℤ) (within : ℤ) (x rest : List ℕ) → printed
 claim-parts None within x rest = lines-first (codes "infeasible") [] rest
 claim-parts (Some value) within x rest =
     let value_line = codes "value" ++ 32 ∷ decimal_of value in
-    let last_line = codes "assignment" ++ spaced x in
+    let last_line = codes "assignment" ++ after_spaces x in
     lines-first (proved_text within) (value_line ∷ last_line ∷ []) rest
     ∙ (ap (λ l. proved_text within ++ (10 ∷ l)) (two-lines value_line last_line rest) ∙ proved-parts within (10 ∷ (value_line ++ (10 ∷ (last_line ++ (10 ∷ rest))))))
 

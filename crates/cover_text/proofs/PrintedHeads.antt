@@ -11,7 +11,8 @@ use Rattle.std.proofs.lemmas.Str.Parse.{IsNumeralModel, numerals_by_fold}
 use Rattle.tokens.specs.Text.{TextState, text_start, is_blank, is_solid, place_after, is_passed, is_inside_after, skip, at_token, place_of, after_token, ends_line, value_after}
 use Rattle.tokens.specs.declared.comment.Comment.TheVariants.{Never}
 use Rattle.tokens.specs.declared.place.Place.{Place}
-use Rattle.tokens.specs.Decimal.{decimal_of}
+use Rattle.tokens.specs.Counts.{is_count}
+use Rattle.tokens.specs.Decimal.{decimal_of, after_spaces}
 use Rattle.tokens.proofs.Digits.{is_printed}
 use Rattle.tokens.proofs.Printing.{before_start, ends_line_LF, ends_line_number}
 use Rattle.tokens.proofs.Repeats.{fold_pushes}
@@ -21,8 +22,8 @@ use Rattle.problem_names.specs.Parts.{IsPart, MayBePart}
 use Rattle.problem_names.specs.declared.ModelName.{ModelName}
 use Rattle.problem_names.specs.declared.part.PartNumber.{PartNumber}
 use Rattle.cover_text.specs.Grammar.{until}
-use Rattle.cover_text.specs.Heads.{ClaimView, decision_at, distance_at, solution_at, claim_at, is_count, count_at, counts_at, name_at, part_number_at, part_at, size_at, head_at}
-use Rattle.cover_text.specs.Outputs.{spaced, CountsView, MayBeCounts}
+use Rattle.cover_text.specs.Heads.{ClaimView, decision_at, distance_at, solution_at, claim_at, count_at, counts_at, name_at, part_number_at, part_at, size_at, head_at}
+use Rattle.cover_text.specs.Outputs.{CountsView, MayBeCounts}
 use Rattle.dp_model.specs.Distances.{IsDistance}
 use Rattle.cover_text.specs.Written.{IsWord}
 use Rattle.cover_text.proofs.EachName.{for_each}
@@ -100,9 +101,9 @@ space-first more = record { blank = 32; more = more; is = refl; is_blank = refl 
 
 -- ---- the report
 
-spaced-blank : (ds more : List ℕ) → BeginsBlank (spaced ds ++ (10 ∷ more))
+spaced-blank : (ds more : List ℕ) → BeginsBlank (after_spaces ds ++ (10 ∷ more))
 spaced-blank [] more = LF-first more
-spaced-blank (d ∷ ds) more = space-first ((decimal_of (pos d) ++ spaced ds) ++ (10 ∷ more))
+spaced-blank (d ∷ ds) more = space-first ((decimal_of (pos d) ++ after_spaces ds) ++ (10 ∷ more))
 
 decision-on : (line d : ℕ) (more made : List ℕ) (s : TextState) → d < 2 ^ 32 → BeginsBlank more → IsOn line ((32 ∷ decimal_of (pos d)) ++ more) s → (ends_line s ≡ false) × Gives (IsOn line more) (decision_at made s) (made ++ d ∷ [])
 unfolding decision_at
@@ -113,11 +114,11 @@ decision-on line d more made s few blank on =
       record { state = after_token s; is = rw number.value refl; there = record { at = number.at; line_is = after-line s ∙ here.line_is } },
     )
 
-decisions-on : (line most : ℕ) (ds more : List ℕ) (s : TextState) → length ds ≤ most → Each (λ d. d < 2 ^ 32) ds → IsOn line (spaced ds ++ (10 ∷ more)) s → Gives (IsOn line (10 ∷ more)) (until ends_line decision_at most [] s) ds
+decisions-on : (line most : ℕ) (ds more : List ℕ) (s : TextState) → length ds ≤ most → Each (λ d. d < 2 ^ 32) ds → IsOn line (after_spaces ds ++ (10 ∷ more)) s → Gives (IsOn line (10 ∷ more)) (until ends_line decision_at most [] s) ds
 decisions-on line most ds more s few held on =
     let tail = 10 ∷ more in
     let read = until_reads ends_line decision_at (λ d. 32 ∷ decimal_of (pos d)) (λ made d. made ++ d ∷ []) (λ d. d < 2 ^ 32) (IsOn line) tail (most - length ds)
-    (λ d rest made t fits here. decision-on line d (spaced rest ++ tail) made t fits (spaced-blank rest more) here)
+    (λ d rest made t fits here. decision-on line d (after_spaces rest ++ tail) made t fits (spaced-blank rest more) here)
     (λ made t here. until_ended ends_line decision_at (most - length ds) made t (ends_line_LF more t here.at.rest_is))
     most ds [] s (omega arith) held on in
     record { state = read.state; is = read.is ∙ ap (λ made. Ok (made, read.state)) (fold_pushes ds []); there = read.there }
@@ -162,11 +163,11 @@ distance-on false within more s untold near on =
 
 -- the distance, the value and the assignment
 solution-on : (most : ℕ) (value within : ℤ) (ds more : List ℕ) (s : TextState) → IsWord value → IsDistance within → Each (λ d. d < 2 ^ 32) ds → length ds ≤ most
-    → IsOn 1 (distance_text (int_lt (pos 0) within) within ++ (10 ∷ (codes "value" ++ (32 ∷ (decimal_of value ++ (10 ∷ (codes "assignment" ++ (spaced ds ++ (10 ∷ more))))))))) s
+    → IsOn 1 (distance_text (int_lt (pos 0) within) within ++ (10 ∷ (codes "value" ++ (32 ∷ (decimal_of value ++ (10 ∷ (codes "assignment" ++ (after_spaces ds ++ (10 ∷ more))))))))) s
     → Gives (IsOn 3 (10 ∷ more)) (solution_at most s) (record { best = Some value; within = within; assignment = ds })
 unfolding solution_at
 solution-on most value within ds more s fits near held few on =
-    let after = spaced ds ++ (10 ∷ more) in
+    let after = after_spaces ds ++ (10 ∷ more) in
     let second = 10 ∷ (codes "assignment" ++ after) in
     let one = distance-on (int_lt (pos 0) within) within (decimal_of value ++ second) s refl near on in
     let t = one.state in
@@ -186,7 +187,7 @@ claim_height (Some value) = 3
 abbrev pub claim_then : Option ℤ → ℤ → List ℕ → List ℕ → List ℕ
 claim_then None within ds more = codes "infeasible" ++ (10 ∷ more)
 claim_then (Some value) within ds more =
-    codes "proved" ++ (distance_text (int_lt (pos 0) within) within ++ (10 ∷ (codes "value" ++ (32 ∷ (decimal_of value ++ (10 ∷ (codes "assignment" ++ (spaced ds ++ (10 ∷ more)))))))))
+    codes "proved" ++ (distance_text (int_lt (pos 0) within) within ++ (10 ∷ (codes "value" ++ (32 ∷ (decimal_of value ++ (10 ∷ (codes "assignment" ++ (after_spaces ds ++ (10 ∷ more)))))))))
 
 -- a claim that can be read, of at most this many decisions
 abbrev pub MayBeClaim : ℕ → Option ℤ → ℤ → List ℕ → Type 0
@@ -200,7 +201,7 @@ claim-on most None within ds more s fits ahead =
     let word = word-on 1 105 (codes "nfeasible") (10 ∷ more) s refl (lit< tt) (LF-first more) ahead in
     record { state = after_token s; is = rw (word.word_is.value, fits.0, fits.1) refl; there = word.on }
 claim-on most (Some value) within ds more s fits ahead =
-    let lines = codes "value" ++ (32 ∷ (decimal_of value ++ (10 ∷ (codes "assignment" ++ (spaced ds ++ (10 ∷ more)))))) in
+    let lines = codes "value" ++ (32 ∷ (decimal_of value ++ (10 ∷ (codes "assignment" ++ (after_spaces ds ++ (10 ∷ more)))))) in
     let told = int_lt (pos 0) within in
     let word = word-on 1 112 (codes "roved") (distance_text told within ++ (10 ∷ lines)) s refl (lit< tt) (distance-blank told within lines) ahead in
     let read = solution-on most value within ds more (after_token s) fits.0 fits.1.0 fits.1.1.0 fits.1.1.1 word.on in
@@ -361,7 +362,7 @@ record BeginsSolid (bytes : List ℕ) : Type 0 where
 begins-first : (best : Option ℤ) (within : ℤ) (ds more : List ℕ) → BeginsSolid (claim_then best within ds more)
 begins-first None within ds more = record { first = 105; others = codes "nfeasible" ++ (10 ∷ more); is = refl; solid = refl }
 begins-first (Some value) within ds more =
-    record { first = 112; others = codes "roved" ++ (distance_text (int_lt (pos 0) within) within ++ (10 ∷ (codes "value" ++ (32 ∷ (decimal_of value ++ (10 ∷ (codes "assignment" ++ (spaced ds ++ (10 ∷ more))))))))); is = refl; solid = refl }
+    record { first = 112; others = codes "roved" ++ (distance_text (int_lt (pos 0) within) within ++ (10 ∷ (codes "value" ++ (32 ∷ (decimal_of value ++ (10 ∷ (codes "assignment" ++ (after_spaces ds ++ (10 ∷ more))))))))); is = refl; solid = refl }
 
 first-line : (w : ℕ) (bytes : List ℕ) → is_solid w ≡ true → (place_of (text_start Never (w ∷ bytes))).line ≡ 1
 unfolding place_of at_token

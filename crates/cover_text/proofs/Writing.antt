@@ -1,5 +1,5 @@
 -- What is in memory can be written where its bounds can.
-use Rattle.std.proofs.Common.{ℕ, ◌<◌, ◌^◌, List, [], ◌∷◌, length}
+use Rattle.std.proofs.Common.{◌<◌, ◌^◌, List, [], ◌∷◌, length}
 use Rattle.bound_cover.specs.Clamping.{IsWritable, AreWritable}
 use Rattle.bound_cover.specs.Covers.{CoverRow}
 use Rattle.dp_model.specs.Lists.{Each}

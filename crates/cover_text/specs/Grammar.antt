@@ -1,10 +1,10 @@
 -- Grammars of covers, as chains. No grammar answers want of memory.
-use Rattle.std.specs.Prelude.{◌≡◌, ℕ, ◌-◌, ◌^◌, List, ℤ, pos, nat_abs, Bool, cond, Result, Ok, Err}
+use Rattle.std.specs.Prelude.{◌≡◌, ℕ, ◌-◌, ◌^◌, List, ℤ, pos, nat_abs, cond, Result, Ok, Err}
 use Rattle.tokens.specs.declared.text_error.TextError.{TextError}
 use Rattle.tokens.specs.declared.place.Place.{Place}
-use Rattle.tokens.specs.Text.{TextState, word_at, token, place_of}
+use Rattle.tokens.specs.Text.{TextState, word_at, place_of}
 use Rattle.tokens.specs.Chain as chain
-pub use Rattle.tokens.specs.Chain.{part_then, passed_then, never}
+pub use Rattle.tokens.specs.Chain.{part_then, passed_then, never, stands}
 unfoldable pub use Rattle.tokens.specs.Chain.{until}
 use Rattle.problem_names.specs.ModelNames.{word_same}
 pub use Rattle.cover_text.specs.declared.cover_error.CoverError.{CoverError}
@@ -25,10 +25,6 @@ word_then s more = chain.word_then Text s more
 -- the end of the text
 abbrev pub end_then : {B : Type 0} → TextState → Result B CoverError → Result B CoverError
 end_then s outcome = chain.end_then Text s outcome
-
--- whether the next token is this word
-abbrev pub stands : List ℕ → TextState → Bool
-stands word s = word_same (token s) word
 
 -- a fixed word
 unfoldable pub fixed_at : List ℕ → TextState → Result TextState CoverError

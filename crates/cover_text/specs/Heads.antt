@@ -1,6 +1,6 @@
 -- The lines before the instance: the report, perhaps taken and finished, cover MODEL, perhaps part I K, instance BYTES.
-use Rattle.std.specs.Prelude.{ℕ, ◌+◌, ◌-◌, ◌^◌, List, [], ◌∷◌, ◌++◌, length, ℤ, pos, neg_ℤ, nat_abs, Bool, not, ◌&&◌, nat_le, nat_eq, cond, codes, Option, Some, None, Result, Ok, Err}
-use Rattle.std.specs.Str.{all_ascii_digits}
+use Rattle.std.specs.Prelude.{ℕ, ◌+◌, ◌-◌, ◌^◌, List, [], ◌∷◌, ◌++◌, length, ℤ, pos, neg_ℤ, nat_abs, cond, codes, Option, Some, None, Result, Ok, Err}
+use Rattle.tokens.specs.Counts.{is_count}
 use Rattle.tokens.specs.Text.{TextState, text_start, ends_line, place_of}
 use Rattle.tokens.specs.declared.comment.Comment.TheVariants.{Never}
 use Rattle.dp_model.specs.declared.limits.TheConstants.{MOST_DISTANCE}
@@ -63,10 +63,6 @@ unfoldable pub claim_at : ℕ → TextState → Result (ClaimView × TextState) 
 claim_at most s = word_then s (λ w t.
     cond (word_same w (codes "proved")) (solution_at most t)
     (cond (word_same w (codes "infeasible")) (Ok (record { best = None; within = pos 0; assignment = [] }, t)) (Err (Word (place_of s)))))
-
--- whether a word is 1 to 20 digits
-abbrev pub is_count : List ℕ → Bool
-is_count w = not (nat_eq (length w) 0) && nat_le (length w) 20 && all_ascii_digits w
 
 -- a number of the lines taken and finished
 unfoldable pub count_at : TextState → Result TextState CoverError

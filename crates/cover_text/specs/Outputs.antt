@@ -1,7 +1,7 @@
 -- A whole output as it is printed: the report, perhaps the counts, the lines of the cover, the instance, and the sections.
 use Rattle.std.specs.Prelude.{◌≡◌, ℕ, ◌<◌, ◌^◌, ℤ, pos, int_lt, cond, List, [], ◌∷◌, ◌++◌, length, flat_map, codes, decimal, Option, Some, None, Ok}
 use Rattle.bound_cover.specs.Covers.{CoverRow}
-use Rattle.tokens.specs.Decimal.{decimal_of}
+use Rattle.tokens.specs.Decimal.{decimal_of, after_spaces}
 use Rattle.dp_model.specs.Distances.{IsDistance}
 use Rattle.dp_model.specs.Lists.{Each}
 use Rattle.problem_names.specs.ModelNames as names
@@ -17,10 +17,6 @@ use Rattle.cover_text.specs.Written.{IsWord, IsWritten}
 abbrev pub printed_lines : List (List ℕ) → List ℕ
 printed_lines lines = flat_map (λ text. text ++ 10 ∷ []) lines
 
--- each number after a space
-abbrev pub spaced : List ℕ → List ℕ
-spaced ds = flat_map (λ d. 32 ∷ decimal_of (pos d)) ds
-
 -- the first line of a report with a solution, by how far a better one may be
 abbrev pub proved_text : ℤ → List ℕ
 proved_text within = cond (int_lt (pos 0) within) (codes "proved within" ++ 32 ∷ decimal_of within) (codes "proved")
@@ -28,7 +24,7 @@ proved_text within = cond (int_lt (pos 0) within) (codes "proved within" ++ 32 �
 -- the lines of a report
 abbrev pub claim_lines : Option ℤ → ℤ → List ℕ → List (List ℕ)
 claim_lines None within x = codes "infeasible" ∷ []
-claim_lines (Some value) within x = proved_text within ∷ (codes "value" ++ 32 ∷ decimal_of value) ∷ (codes "assignment" ++ spaced x) ∷ []
+claim_lines (Some value) within x = proved_text within ∷ (codes "value" ++ 32 ∷ decimal_of value) ∷ (codes "assignment" ++ after_spaces x) ∷ []
 
 -- how many subproblems were taken, and how many of them finished
 pub record CountsView : Type 0 where

@@ -1,9 +1,9 @@
-//! Fixed words, and numbers of 32 bits.
+//! Fixed words.
 
 ghost use Rattle.std.specs.Prelude.{◌≡◌};
 ghost use Rattle.problem_names.specs.ModelNames.{word_same};
 ghost use Rattle.tokens.specs.Text.{token};
-ghost use Rattle.cover_text.specs.Grammar.{Reads, fixed_at, early_end, small_at};
+ghost use Rattle.cover_text.specs.Grammar.{Reads, fixed_at, early_end};
 
 use crate::cover_error::CoverError;
 use tokens::Tokens;
@@ -41,14 +41,4 @@ pub(crate) fn early_end(tokens: &mut Tokens<'_>) -> CoverError
         Ok(_) => CoverError::Word(place),
         Err(fault) => CoverError::Text(fault),
     }
-}
-
-/// Reads a number of 32 bits.
-#[inline(always)]
-#[tactic(auto, unfolding(crate::specs::Grammar::small_at))]
-pub(crate) fn next_small(tokens: &mut Tokens<'_>) -> Result<u32, CoverError>
-    ensures { Reads (λ n. (n, tokens.new)) result (small_at tokens.old) }
-{
-    let number = tokens.next_natural(0, 4_294_967_295)?;
-    Ok(number as u32)
 }

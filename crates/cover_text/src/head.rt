@@ -1,21 +1,20 @@
 //! The lines before the instance, read.
 
 ghost use Rattle.std.specs.Prelude.{◌≡◌, ◌<◌, ◌-◌, ◌^◌, length, IfOk};
-ghost use Rattle.std.specs.Str.{all_ascii_digits};
 ghost use Rattle.dp_model.specs.Distances.{IsDistance};
 ghost use Rattle.problem_names.specs.ModelNames.{model_named};
 ghost use Rattle.problem_names.specs.Parts.{IsPart, MayBePart};
 ghost use Rattle.tokens.specs.Text.{ends_line, text_start};
 ghost use Rattle.tokens.specs.declared.comment.Comment.TheVariants.{Never};
 ghost use Rattle.cover_text.specs.Grammar.{Reads, until};
-ghost use Rattle.cover_text.specs.Heads.{claim_in, claim_at, counts_at, decision_at, distance_at, head_in, head_at, is_count, count_at, name_at, part_at, part_number_at, size_at, solution_at};
+ghost use Rattle.cover_text.specs.Heads.{claim_in, claim_at, counts_at, decision_at, distance_at, head_in, head_at, count_at, name_at, part_at, part_number_at, size_at, solution_at};
 
 use crate::cover_error::CoverError;
-use crate::fixed::{is_word, next_small, pass_word};
+use crate::fixed::{is_word, pass_word};
 use dp_model::MOST_DISTANCE;
 use problem_names::{MOST_PARTS, ModelName, PartNumber};
 use std::alloc::Global;
-use tokens::{Comment, Tokens};
+use tokens::{Comment, Tokens, is_count};
 
 /// The reported value, distance and assignment.
 #[derive(Debug, Drop)]
@@ -42,11 +41,11 @@ pub(crate) struct Head {
 }
 
 /// Reads a decision after those before it.
-#[tactic(auto, unfolding(crate::specs::Heads::decision_at), using(crate::proofs::Chains::part_fails))]
+#[tactic(auto, unfolding(crate::specs::Heads::decision_at, crate::specs::Grammar::small_at), using(crate::proofs::Chains::part_fails))]
 fn read_decision(tokens: &mut Tokens<'_>, decisions: &mut Vec<u32>) -> Result<(), CoverError>
     ensures { Reads (λ _. (decisions.new.items, tokens.new)) result (decision_at decisions.old.items tokens.old) }
 {
-    let decision = next_small(tokens)?;
+    let decision = tokens.next_u32()?;
     decisions.push(decision)?;
     Ok(())
 }
@@ -125,27 +124,6 @@ fn read_claim(alloc: Global, tokens: &mut Tokens<'_>, most: usize) -> Result<Cla
     } else {
         Err(CoverError::Word(place))
     }
-}
-
-/// Whether there are digits alone.
-fn are_digits(word: &[u8]) -> bool
-    ensures { result ≡ all_ascii_digits word.now }
-{
-    let mut rest = word;
-    while let [digit, after @ ..] = rest {
-        if !digit.is_ascii_digit() {
-            return false;
-        }
-        rest = after;
-    }
-    true
-}
-
-/// Whether a word is 1 to 20 digits.
-fn is_count(word: &[u8]) -> bool
-    ensures { result ≡ is_count word.now }
-{
-    !word.is_empty() && word.len() <= 20 && are_digits(word)
 }
 
 /// Passes over a number of the lines `taken` and `finished`.
@@ -238,12 +216,12 @@ fn read_part(tokens: &mut Tokens<'_>) -> Result<Option<PartNumber>, CoverError>
 }
 
 /// Reads how many bytes the instance has, to the line's end.
-#[tactic(auto, unfolding(crate::specs::Heads::size_at), using(crate::proofs::Chains::part_fails))]
+#[tactic(auto, unfolding(crate::specs::Heads::size_at, crate::specs::Grammar::small_at), using(crate::proofs::Chains::part_fails))]
 fn read_size(tokens: &mut Tokens<'_>) -> Result<Size, CoverError>
     ensures { Reads (λ size. (size, tokens.new)) result (size_at tokens.old) }
 {
     let line = tokens.place().line;
-    let bytes = next_small(tokens)?;
+    let bytes = tokens.next_u32()?;
     if !tokens.at_line_end() {
         tokens.finish()?;
     }

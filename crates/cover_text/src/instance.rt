@@ -6,7 +6,7 @@ ghost use Rattle.cover_text.specs.Instances.{after_lines, end_place, parted, mov
 use crate::cover_error::CoverError;
 use tokens::{Place, TextError};
 
-/// A text in three parts: up to the instance, the instance, and what stands after it.
+/// The instance of a text, and the bytes after it.
 #[derive(Clone, Copy, Debug)]
 pub(crate) struct Parted<'a> {
     pub(crate) instance: &'a [u8],

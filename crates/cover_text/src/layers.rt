@@ -7,7 +7,7 @@ ghost use Rattle.cover_text.specs.RowLines.{row_into};
 ghost use Rattle.cover_text.specs.Sections.{layer_at, numbered_at, sections_at};
 
 use crate::cover_error::CoverError;
-use crate::fixed::{next_small, pass_word};
+use crate::fixed::pass_word;
 use crate::rows::read_row;
 use bound_cover::{Cover, CoverBuilder};
 use itoa::Buffer;
@@ -37,7 +37,7 @@ fn read_rows(
 }
 
 /// Reads the section of the layer of this number, after those before it.
-#[tactic(auto, unfolding(crate::specs::Sections::numbered_at), using(crate::proofs::LastLayers::last_added, crate::proofs::Chains::part_fails, crate::proofs::Chains::passed_fails))]
+#[tactic(auto, unfolding(crate::specs::Sections::numbered_at, crate::specs::Grammar::small_at), using(crate::proofs::LastLayers::last_added, crate::proofs::Chains::part_fails, crate::proofs::Chains::passed_fails))]
 pub(crate) fn read_numbered(
     tokens: &mut Tokens<'_>,
     most: usize,
@@ -53,7 +53,7 @@ pub(crate) fn read_numbered(
     pass_word(tokens, b"layer")?;
     let mut digits = Buffer::new();
     pass_word(tokens, digits.format(number).as_bytes())?;
-    let rows = next_small(tokens)?;
+    let rows = tokens.next_u32()?;
     cover.add_layer()?;
     read_rows(tokens, most, rows, cover)
 }

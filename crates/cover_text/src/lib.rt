@@ -8,7 +8,7 @@
 //! Promised: `read_cover` answers exactly what the grammar gives, the first fault with its place included; `open_cover` does so up to the
 //! sections, and `OpenCover::check` gives the verdict on these, which are tested as they are read. `push_cover` appends
 //! exactly the sections of a cover, which are read as that cover (the law `pushed_is_read`). A whole output that is printed is read as
-//! what was printed (`outputs_are_read`), for each cover whose bounds are none or from -2^62 to 2^62 (`push_cover`). Only want of memory has no stated cause.
+//! what was printed (`outputs_are_read`), for each cover whose bounds are none or from -2^62 to 2^62 (`push_cover`). `OutOfMemory` may be answered at any input.
 //!
 //! `read_covers` answers what the grammar gives for one or more texts up to the end of the input.
 //!

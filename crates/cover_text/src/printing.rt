@@ -11,7 +11,10 @@ use crate::digits::{SHORT, push_negative, push_short};
 use bound_cover::{Cover, CoverArc};
 use dp_model::{DpModel, OutOfMemory};
 use itoa::Buffer;
-use tokens::{push_number, push_text};
+use tokens::{ZEROS, push_number, push_text};
+
+/// `ZEROS` zeros as they are printed, each after a space.
+const ZEROS_TEXT: &str = " 0 0 0 0 0 0 0 0";
 
 /// Appends a bound.
 fn push_bound(out: &mut Vec<u8>, bound: Option<i64>) -> Result<(), OutOfMemory>
@@ -47,14 +50,14 @@ fn push_after(out: &mut Vec<u8>, number: i64) -> Result<(), OutOfMemory>
     push_long(out, number)
 }
 
-/// Whether words begin with eight zeros.
+/// Whether words begin with `ZEROS` zeros.
 fn begins_with_zeros(words: &[i64]) -> bool
-    ensures { result ≡ true → words.now ≡ replicate 8 (pos 0) ++ drop 8 words.now }
+    ensures { result ≡ true → words.now ≡ replicate ZEROS (pos 0) ++ drop ZEROS words.now }
 {
-    if words.len() < 8 {
+    if words.len() < ZEROS {
         return false;
     }
-    'words: for i in 0..8 {
+    'words: for i in 0..ZEROS {
         if words[i] != 0 {
             return false;
         }
@@ -62,20 +65,20 @@ fn begins_with_zeros(words: &[i64]) -> bool
     true
 }
 
-/// Appends the zeros with which words begin, eight at a time, and tells how many of the words these are.
+/// Appends the zeros with which words begin, `ZEROS` at a time, and tells how many of the words these are.
 fn push_zeros(out: &mut Vec<u8>, words: &[i64]) -> Result<usize, OutOfMemory>
     ensures pushed { IfOk result (λ done. out.new.items ++ flat_map printed_number (drop done words.now) ≡ out.old.items ++ flat_map printed_number words.now) }
     ensures fits { IfOk result (λ done. Each IsWord (drop done words.now) → Each IsWord words.now) }
     ensures few { IfOk result (λ done. done ≤ length words.now) }
 {
-    let count = words.len() / 8;
+    let count = words.len() / ZEROS;
     'eights: for block in 0..count {
-        if !begins_with_zeros(&words[8 * block..]) {
-            return Ok(8 * block);
+        if !begins_with_zeros(&words[ZEROS * block..]) {
+            return Ok(ZEROS * block);
         }
-        push_text(out, " 0 0 0 0 0 0 0 0")?;
+        push_text(out, ZEROS_TEXT)?;
     }
-    Ok(8 * count)
+    Ok(ZEROS * count)
 }
 
 /// Appends words.

@@ -14,7 +14,7 @@ use crate::head::read_head;
 use crate::instance::{end_place, moved, part_text};
 use crate::layers::read_sections;
 use crate::tested::test_sections;
-use bound_cover::{Cover, Verdict};
+use bound_cover::{Cover, Reported, Verdict};
 use dp_model::DpModel;
 use std::alloc::Global;
 
@@ -78,15 +78,12 @@ impl<'t> OpenCover<'t> {
         requires distance { IsDistance self.now.within }
         ensures { Reads (λ v. v) result (verdict_after (M.meaning (M.numbers model.now)) (opened_in self.now)) }
     {
-        let assignment = self.assignment.as_slice();
-        match test_sections(
-            alloc,
-            model,
-            self.best,
-            self.within,
-            assignment,
-            self.following,
-        ) {
+        let reported = Reported {
+            best: self.best,
+            within: self.within,
+            assignment: self.assignment.as_slice(),
+        };
+        match test_sections(alloc, model, reported, self.following) {
             Ok(verdict) => Ok(verdict),
             Err(fault) => Err(self.placed(fault)),
         }

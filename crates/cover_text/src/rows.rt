@@ -7,10 +7,10 @@ ghost use Rattle.cover_text.specs.Grammar.{Reads, until};
 ghost use Rattle.cover_text.specs.RowLines.{bound_at, semicolon_at, state_word_at, ends_words, arc_at, target_at, arcs_at, row_into};
 
 use crate::cover_error::CoverError;
-use crate::fixed::{early_end, next_small, pass_word};
+use crate::fixed::{early_end, pass_word};
 use bound_cover::{CoverArc, CoverBuilder, MOST_BOUND};
 use dp_model::OutOfMemory;
-use tokens::Tokens;
+use tokens::{Tokens, ZEROS};
 
 /// Reads a bound: `none`, or a number from `-2^62` to `2^62`.
 #[inline]
@@ -59,21 +59,21 @@ fn read_word(tokens: &mut Tokens<'_>, rows: &mut CoverBuilder) -> Result<(), Cov
     Ok(())
 }
 
-/// Adds eight zeros to the words.
+/// Adds `ZEROS` zeros to the words.
 #[inline]
 #[tactic(auto, using(crate::proofs::ZerosRead::zero_added))]
 fn add_zeros(rows: &mut CoverBuilder) -> Result<(), OutOfMemory>
-    ensures words { OnOk result (rows.new.words ≡ rows.old.words ++ replicate 8 (pos 0)) }
+    ensures words { OnOk result (rows.new.words ≡ rows.old.words ++ replicate ZEROS (pos 0)) }
     ensures cover { rows.new.cover ≡ rows.old.cover }
     ensures arcs { rows.new.arcs ≡ rows.old.arcs }
 {
-    for _ in 0..8usize {
+    for _ in 0..ZEROS {
         rows.push_word(0)?;
     }
     Ok(())
 }
 
-/// Reads the zeros with which words begin, eight at a time, and tells how many of the words these are.
+/// Reads the zeros with which words begin, `ZEROS` at a time, and tells how many of the words these are.
 #[inline]
 #[tactic(auto, using(crate::proofs::ZerosRead::eight_read))]
 fn read_zeros(
@@ -86,14 +86,14 @@ fn read_zeros(
     ensures cover { rows.new.cover ≡ rows.old.cover }
     ensures arcs { rows.new.arcs ≡ rows.old.arcs }
 {
-    let count = most / 8;
+    let count = most / ZEROS;
     'eights: for block in 0..count {
         if !tokens.pass_zeros() {
-            return Ok(8 * block);
+            return Ok(ZEROS * block);
         }
         add_zeros(rows)?;
     }
-    Ok(8 * count)
+    Ok(ZEROS * count)
 }
 
 /// Reads words one by one, at most this many.
@@ -131,7 +131,7 @@ fn read_words(
 }
 
 /// Reads the target of an arc: a row's number, or `r`.
-#[tactic(auto, unfolding(crate::specs::RowLines::target_at), using(crate::proofs::Chains::part_fails, crate::proofs::Passing::passing_steps))]
+#[tactic(auto, unfolding(crate::specs::RowLines::target_at, crate::specs::Grammar::small_at), using(crate::proofs::Chains::part_fails, crate::proofs::Passing::passing_steps))]
 fn read_target(tokens: &mut Tokens<'_>) -> Result<Option<u32>, CoverError>
     ensures { Reads (λ t. (t, tokens.new)) result (target_at tokens.old) }
 {
@@ -141,18 +141,18 @@ fn read_target(tokens: &mut Tokens<'_>) -> Result<Option<u32>, CoverError>
     if tokens.pass_if(b"r") {
         return Ok(None);
     }
-    let row = next_small(tokens)?;
+    let row = tokens.next_u32()?;
     Ok(Some(row))
 }
 
 /// Reads an arc after those before it.
-#[tactic(auto, unfolding(crate::specs::RowLines::arc_at), using(crate::proofs::Chains::part_fails))]
+#[tactic(auto, unfolding(crate::specs::RowLines::arc_at, crate::specs::Grammar::small_at), using(crate::proofs::Chains::part_fails))]
 fn read_arc(tokens: &mut Tokens<'_>, rows: &mut CoverBuilder) -> Result<(), CoverError>
     ensures read { Reads (λ _. (rows.new.arcs, tokens.new)) result (arc_at rows.old.arcs tokens.old) }
     ensures cover { rows.new.cover ≡ rows.old.cover }
     ensures words { rows.new.words ≡ rows.old.words }
 {
-    let decision = next_small(tokens)?;
+    let decision = tokens.next_u32()?;
     let target = read_target(tokens)?;
     rows.push_arc(CoverArc { decision, target })?;
     Ok(())

@@ -9,7 +9,7 @@ ghost use Rattle.cover_text.specs.Tested.{tested_at, tested_sections};
 use crate::cover_error::CoverError;
 use crate::fixed::pass_word;
 use crate::layers::read_numbered;
-use bound_cover::{Checker, Cover, CoverBuilder, LayerTests, Verdict};
+use bound_cover::{Checker, Cover, CoverBuilder, LayerTests, Reported, Verdict};
 use dp_model::DpModel;
 use std::alloc::Global;
 use tokens::{Comment, Tokens};
@@ -80,17 +80,15 @@ fn test_layers<M: DpModel>(
 pub(crate) fn test_sections<M: DpModel>(
     alloc: Global,
     model: &M,
-    best: Option<i64>,
-    within: i64,
-    assignment: &[u32],
+    reported: Reported<'_>,
     bytes: &[u8],
 ) -> Result<Verdict, CoverError>
     requires length { length bytes.now < 2 ^ 32 - 1 }
-    requires distance { IsDistance within }
-    ensures { Reads (λ v. v) result (tested_sections (M.meaning (M.numbers model.now)) best within assignment.now bytes.now) }
+    requires distance { IsDistance reported.within }
+    ensures { Reads (λ v. v) result (tested_sections (M.meaning (M.numbers model.now)) reported.entry.best reported.entry.within reported.entry.assignment.now bytes.now) }
 {
     let mut checker = Checker::prepare(alloc, model)?;
-    let mut tests = checker.begin(alloc, model, best, within, assignment);
+    let mut tests = checker.begin(alloc, model, reported);
     let mut tokens = Tokens::new(bytes, Comment::Never);
     test_layers(
         &mut tokens,

@@ -15,12 +15,13 @@ use Rattle.hex.specs.Hex.{IsBytes, encode_lower, encode_with, lower_digits}
 use Rattle.hex.proofs.HexLemmas.{decode_sized-encode_lower}
 use Rattle.tokens.specs.Text.{TextState, is_blank, is_solid, is_passed, skip, at_token, token, number_at, number_of, after_token, is_at_end, text_start, value_after}
 use Rattle.tokens.specs.declared.comment.Comment.TheVariants.{Never}
+use Rattle.tokens.specs.Counts.{is_count}
 use Rattle.tokens.specs.Decimal.{decimal_of}
 use Rattle.tokens.proofs.Digits.{digit_range, is_printed, number_of-decimal_of}
 use Rattle.problem_names.specs.declared.part.PartNumber.{PartNumber}
 use Rattle.cover_text.proofs.PrintedTokens.{IsAhead, IsAt, BeginsBlank, PassesWord, passes_number, same-self}
 use Rattle.part_text.specs.Grammar.{fixed_at, small_at}
-use Rattle.part_text.specs.Written.{alone, digest_written, is_count, part_written, slash_place, small_written}
+use Rattle.part_text.specs.Written.{alone, digest_written, part_written, slash_place, small_written}
 
 pub passes_fixed : (w : ℕ) (ws more : List ℕ) (s : TextState) → PassesWord (w ∷ ws) more s → fixed_at (w ∷ ws) s ≡ Ok (after_token s)
 unfolding fixed_at

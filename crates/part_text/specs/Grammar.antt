@@ -1,11 +1,11 @@
 -- Grammars of reports, as chains. No grammar answers want of memory.
-use Rattle.std.specs.Prelude.{◌≡◌, ℕ, ◌-◌, ◌^◌, List, pos, nat_abs, Bool, cond, Option, Some, None, Result, Ok, Err}
+use Rattle.std.specs.Prelude.{◌≡◌, ℕ, ◌-◌, ◌^◌, List, pos, nat_abs, cond, Option, Some, None, Result, Ok, Err}
 use Rattle.tokens.specs.declared.place.Place.{Place}
 use Rattle.tokens.specs.declared.instance_error.InstanceFault.TheVariants.{Word}
-use Rattle.tokens.specs.Text.{TextState, token, place_of}
+use Rattle.tokens.specs.Text.{TextState, place_of}
 pub use Rattle.tokens.specs.declared.instance_error.InstanceError.{InstanceError}
 pub use Rattle.tokens.specs.Grammar.{number_then, word_then, end_then}
-pub use Rattle.tokens.specs.Chain.{part_then, passed_then}
+pub use Rattle.tokens.specs.Chain.{part_then, passed_then, stands}
 unfoldable pub use Rattle.tokens.specs.Chain.{until}
 use Rattle.problem_names.specs.ModelNames.{word_same}
 pub use Rattle.part_text.specs.declared.read_reports_error.ReadReportsError.{ReadReportsError}
@@ -14,10 +14,6 @@ use Rattle.part_text.specs.declared.read_reports_error.ReadReportsError.TheVaria
 -- the fault of a word that may not stand at this place
 abbrev pub wrong_word : Place → InstanceError
 wrong_word p = record { fault = Word; place = p }
-
--- whether the next token is this word
-abbrev pub stands : List ℕ → TextState → Bool
-stands word s = word_same (token s) word
 
 -- a fixed word
 unfoldable pub fixed_at : List ℕ → TextState → Result TextState InstanceError

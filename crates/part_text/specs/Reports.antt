@@ -1,6 +1,7 @@
 -- Reports of parts that are settled, one after another: settled, perhaps within W, part I/K, journal DIGEST, value and assignment or value none,
 -- perhaps taken and finished.
 use Rattle.std.specs.Prelude.{ℕ, ◌-◌, ◌^◌, List, [], ◌∷◌, ◌++◌, length, ℤ, pos, neg_ℤ, cond, codes, Option, Some, None, Result, Ok, Err}
+use Rattle.tokens.specs.Counts.{is_count}
 use Rattle.tokens.specs.Text.{TextState, after_token, ends_line, is_at_end, place_of, text_start}
 use Rattle.tokens.specs.declared.comment.Comment.TheVariants.{Never}
 use Rattle.dp_model.specs.declared.limits.TheConstants.{MOST_DISTANCE}
@@ -9,7 +10,7 @@ use Rattle.problem_names.specs.ModelNames.{word_same}
 use Rattle.problem_names.specs.declared.part.PartNumber.{PartNumber}
 use Rattle.part_reports.specs.Reports.{ReportView, report_view}
 use Rattle.part_text.specs.Grammar.{InstanceError, number_then, word_then, end_then, part_then, passed_then, until, fixed_at, small_at, stands, written_or, wrong_word}
-use Rattle.part_text.specs.Written.{digest_written, is_count, part_written}
+use Rattle.part_text.specs.Written.{digest_written, part_written}
 use Rattle.part_text.specs.declared.head.Head.{Head}
 use Rattle.part_text.specs.declared.settled_report.SettledReport.{SettledReport}
 

@@ -6,19 +6,18 @@ ghost use Rattle.journal_bytes.specs.Views.{incumbent_view};
 ghost use Rattle.part_text.specs.Grammar.{Reads, until};
 ghost use Rattle.part_text.specs.Reports.{best_at, count_at, counts_at, decision_at, solution_at};
 
-use crate::fixed::{next_small, pass_word, wrong_word};
+use crate::fixed::{pass_word, wrong_word};
 use crate::read_reports_error::ReadReportsError;
-use crate::written::is_count;
 use journal_bytes::Incumbent;
 use std::alloc::Global;
-use tokens::Tokens;
+use tokens::{Tokens, is_count};
 
 /// Reads a decision after those before it.
-#[tactic(auto, unfolding(crate::specs::Reports::decision_at), using(crate::proofs::Chains::part_fails))]
+#[tactic(auto, unfolding(crate::specs::Reports::decision_at, crate::specs::Grammar::small_at), using(crate::proofs::Chains::part_fails))]
 fn read_decision(tokens: &mut Tokens<'_>, decisions: &mut Vec<u32>) -> Result<(), ReadReportsError>
     ensures { Reads (λ _. (decisions.new.items, tokens.new)) result (decision_at decisions.old.items tokens.old) }
 {
-    let decision = next_small(tokens)?;
+    let decision = tokens.next_u32()?;
     decisions.push(decision)?;
     Ok(())
 }

@@ -1,8 +1,8 @@
-//! Fixed words, and numbers of 32 bits.
+//! Fixed words.
 
 ghost use Rattle.std.specs.Prelude.{◌≡◌};
 ghost use Rattle.problem_names.specs.ModelNames.{word_same};
-ghost use Rattle.part_text.specs.Grammar.{Reads, fixed_at, small_at, wrong_word};
+ghost use Rattle.part_text.specs.Grammar.{Reads, fixed_at, wrong_word};
 ghost use Rattle.part_text.specs.declared.read_reports_error.ReadReportsError.TheVariants.{Text};
 
 use crate::read_reports_error::ReadReportsError;
@@ -37,13 +37,4 @@ pub(crate) fn pass_word(tokens: &mut Tokens<'_>, wanted: &[u8]) -> Result<(), Re
     } else {
         Err(wrong_word(place))
     }
-}
-
-/// Reads a number of 32 bits.
-#[tactic(auto, unfolding(crate::specs::Grammar::small_at))]
-pub(crate) fn next_small(tokens: &mut Tokens<'_>) -> Result<u32, ReadReportsError>
-    ensures { Reads (λ n. (n, tokens.new)) result (small_at tokens.old) }
-{
-    let number = tokens.next_natural(0, 4_294_967_295)?;
-    Ok(number as u32)
 }

@@ -1,28 +1,23 @@
-//! What a single token writes: a part, a digest, a count.
+//! What a single token writes: a part, a digest.
 
 ghost use Rattle.std.specs.Prelude.{◌≡◌, ◌≤◌, length};
-ghost use Rattle.std.specs.Str.{all_ascii_digits};
-ghost use Rattle.part_text.specs.Written.{digest_written, is_count, part_written, slash_place, small_written};
+ghost use Rattle.part_text.specs.Written.{digest_written, part_written, slash_place, small_written};
 
 use crate::fixed::is_word;
 use problem_names::PartNumber;
-use tokens::{Comment, Tokens};
+use tokens::{Comment, MOST_DIGITS, Tokens};
 
-/// The number of 32 bits that at most 20 bytes write.
+/// The number of 32 bits that at most `MOST_DIGITS` bytes write.
 #[tactic(auto, unfolding(crate::specs::Written::small_written, crate::specs::Grammar::small_at))]
 fn small_written(bytes: &[u8]) -> Option<u32>
     ensures { result ≡ small_written bytes.now }
 {
-    if bytes.len() > 20 {
+    if bytes.len() > MOST_DIGITS {
         return None;
     }
     let mut tokens = Tokens::new(bytes, Comment::Never);
-    let number = tokens.next_natural(0, 4_294_967_295).ok()?;
-    if tokens.at_end() {
-        Some(number as u32)
-    } else {
-        None
-    }
+    let number = tokens.next_u32().ok()?;
+    if tokens.at_end() { Some(number) } else { None }
 }
 
 /// How many bytes stand before the first slash.
@@ -70,25 +65,4 @@ pub(crate) fn digest_written(word: &[u8]) -> Option<[u8; 32]>
     } else {
         None
     }
-}
-
-/// Whether there are digits alone.
-fn are_digits(word: &[u8]) -> bool
-    ensures { result ≡ all_ascii_digits word.now }
-{
-    let mut rest = word;
-    while let [digit, after @ ..] = rest {
-        if !digit.is_ascii_digit() {
-            return false;
-        }
-        rest = after;
-    }
-    true
-}
-
-/// Whether a word is 1 to 20 digits.
-pub(crate) fn is_count(word: &[u8]) -> bool
-    ensures { result ≡ is_count word.now }
-{
-    !word.is_empty() && word.len() <= 20 && are_digits(word)
 }

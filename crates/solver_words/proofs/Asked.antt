@@ -7,7 +7,7 @@ use Rattle.std.specs.Option.{option_and_then}
 use Rattle.std.specs.Str.{bytes_eq}
 use Rattle.tokens.specs.Text.{natural_of}
 use Rattle.dp_model.specs.NumberLaws.{int_lt-is_not}
-use Rattle.dp_model.specs.declared.limits.TheConstants.{MOST_DISTANCE, MOST_WIDTH, MOST_WORKERS}
+use Rattle.dp_model.specs.declared.limits.TheConstants.{MOST_DISTANCE, MOST_LAYER_PARTS, MOST_WIDTH, MOST_WORKERS}
 use Rattle.problem_names.specs.declared.ModelName.{ModelName}
 use Rattle.problem_names.specs.declared.Sizes.{Sizes}
 use Rattle.problem_names.specs.ModelNames.{sizes_of}
@@ -18,7 +18,7 @@ use Rattle.solver_words.specs.Grammar.{Argument, Text, has_flag, line_of, settin
 use Rattle.solver_words.specs.Words.{IsAnswer, JobView, Refusal, and_then, asked, by_command, check_line, check_syntax, cut_of, digest_line, digest_of, digest_syntax, generate, generate_line, generate_of, generate_syntax, is_refused, extended, job_view, join_line, join_of, join_syntax, meaning, model_of, optional, or_default, or_model, or_number, part_asked, part_written, positional_number, ranged, resume_line, resume_of, resume_syntax, searched, settings_of, solve, solve_line, solve_of, solve_syntax, split_by, split_line, split_of, split_syntax, usage}
 use Rattle.solver_words.specs.declared.job.Job.{Job}
 use Rattle.solver_words.specs.declared.job.JobSettings.{JobSettings}
-use Rattle.solver_words.specs.declared.limits.TheConstants.{MOST_COVER_WORDS, MOST_LAYER_PARTS}
+use Rattle.solver_words.specs.declared.limits.TheConstants.{MOST_COVER_WORDS}
 use Rattle.solver_words.specs.declared.words_error.WordsError.{WordsError}
 use Rattle.solver_words.specs.Possible.{IsPossible, MaySearch, MaySearchExactly}
 

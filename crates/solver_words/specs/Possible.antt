@@ -1,14 +1,13 @@
 -- Which searches the words ask for, and which instances.
 use Rattle.std.specs.Prelude.{◌≡◌, ◌≤◌, ◌<◌, ◌^◌, ℕ, pos, Some, None}
 use Rattle.dp_model.specs.Distances.{IsDistance}
-use Rattle.dp_model.specs.declared.limits.TheConstants.{MOST_WORKERS}
+use Rattle.dp_model.specs.declared.limits.TheConstants.{MOST_LAYER_PARTS, MOST_WORKERS}
 use Rattle.problem_names.specs.declared.ModelName.{ModelName}
 use Rattle.problem_names.specs.declared.Sizes.{Sizes}
 use Rattle.problem_names.specs.ModelNames.{sizes_of}
 use Rattle.problem_names.specs.Parts.{IsPart}
 use Rattle.solver_words.specs.Words.{JobView, solve, resume, split, check, join, join_reports, digest, generate}
 use Rattle.solver_words.specs.declared.job.JobSettings.{JobSettings}
-use Rattle.solver_words.specs.declared.limits.TheConstants.{MOST_LAYER_PARTS}
 
 -- a search has from 1 to 16 workers and makes layers in from 1 to 64 parts, and its distance from the best is from 0 to 2^50
 pub record MaySearch (settings : JobSettings) : Type 0 where

@@ -8,13 +8,13 @@ use Rattle.problem_names.specs.declared.part.PartNumber.{PartNumber}
 use Rattle.problem_names.specs.declared.part.TheConstants.{MOST_PARTS}
 use Rattle.dp_model.specs.declared.cut_kind.CutKind.{CutKind}
 use Rattle.dp_model.specs.declared.cut_kind.CutKind.TheVariants.{LastExactLayer, Frontier}
-use Rattle.dp_model.specs.declared.limits.TheConstants.{MOST_DISTANCE, MOST_WIDTH, MOST_WORKERS}
+use Rattle.dp_model.specs.declared.limits.TheConstants.{MOST_DISTANCE, MOST_LAYER_PARTS, MOST_WIDTH, MOST_WORKERS}
 use Rattle.problem_names.specs.ModelNames.{model_named, sizes_of}
 use Rattle.solver_words.specs.Grammar.{Syntax, Argument, Text, has_flag, line_of, setting_of, words_of}
 use Rattle.solver_words.specs.declared.job.Job.{Job}
 use Rattle.solver_words.specs.declared.job.Job.TheVariants.{Solve, Resume, Split, Check, Join, JoinReports, Digest, Generate}
 use Rattle.solver_words.specs.declared.job.JobSettings.{JobSettings}
-use Rattle.solver_words.specs.declared.limits.TheConstants.{DEFAULT_COVER_WORDS, MOST_COVER_WORDS, MOST_LAYER_PARTS}
+use Rattle.solver_words.specs.declared.limits.TheConstants.{DEFAULT_COVER_WORDS, MOST_COVER_WORDS, MOST_SEED}
 use Rattle.solver_words.specs.declared.words_error.WordsError.{WordsError}
 use Rattle.solver_words.specs.declared.words_error.WordsError.TheVariants.{Usage, Model, Number, Cutset, OutOfMemory}
 
@@ -238,7 +238,7 @@ generate_of name n seed solved =
     and_then (λ sizes.
     and_then (λ n.
     and_then (λ seed. Ok (generate name n seed solved))
-    (positional_number (codes "seed") 0 2147483647 seed))
+    (positional_number (codes "seed") 0 MOST_SEED seed))
     (positional_number (codes "n") sizes.least sizes.most n))
     (or_model (sizes_of name)))
     (model_of name)

@@ -19,7 +19,8 @@ mod reading;
 mod values;
 mod words_error;
 
+pub use dp_model::MOST_LAYER_PARTS;
 pub use job::{Job, JobSettings};
-pub use limits::{DEFAULT_COVER_WORDS, MOST_COVER_WORDS, MOST_LAYER_PARTS};
+pub use limits::{DEFAULT_COVER_WORDS, MOST_COVER_WORDS};
 pub use reading::read_words;
 pub use words_error::WordsError;

@@ -12,7 +12,7 @@ ghost use Rattle.solver_words.specs.Possible.{IsPossible};
 use crate::command::parse;
 use crate::command_syntax::{CHECK, DIGEST, GENERATE, JOIN, RESUME, SOLVE, SPLIT};
 use crate::job::{Job, JobSettings};
-use crate::limits::{DEFAULT_COVER_WORDS, MOST_COVER_WORDS};
+use crate::limits::{DEFAULT_COVER_WORDS, MOST_COVER_WORDS, MOST_SEED};
 use crate::values::{is_given, read_model, read_optional, read_part, read_placed, read_settings};
 use crate::words_error::WordsError;
 use clap::ArgMatches;
@@ -258,7 +258,7 @@ fn generate_job(matches: &ArgMatches) -> Result<Job, WordsError>
     let model = read_model(matches)?;
     let sizes = read_sizes(model)?;
     let n = read_placed(matches, "n", sizes.least as u64, sizes.most as u64)?;
-    let seed = read_placed(matches, "seed", 0, 2_147_483_647)?;
+    let seed = read_placed(matches, "seed", 0, MOST_SEED)?;
     Ok(Job::Generate {
         model,
         n: n as u32,

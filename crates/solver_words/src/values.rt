@@ -3,13 +3,13 @@ ghost use Rattle.clap.specs.Matches.{first_value, found_of, one_text};
 ghost use Rattle.solver_words.specs.Words.{IsAnswer, natural_in_64_bits, ranged, optional, settings_of, cut_named, model_of, part_asked, part_from, part_written, positional_number};
 
 use crate::job::JobSettings;
-use crate::limits::MOST_LAYER_PARTS;
 use crate::words_error::WordsError;
 use clap::ArgMatches;
-use dp_model::{CutKind, MOST_WIDTH, MOST_WORKERS};
+use dp_model::{CutKind, MOST_LAYER_PARTS, MOST_WIDTH, MOST_WORKERS};
 use problem_names::{MOST_PARTS, ModelName, PartNumber};
+use tokens::MOST_DIGITS;
 
-/// The number of 1 to 20 digits, where it is below 2^64.
+/// The number of 1 to `MOST_DIGITS` digits, where it is below 2^64.
 #[tactic(auto, using(crate::proofs::Numbers::no_plus, crate::proofs::Numbers::parsed))]
 fn read_u64(word: &str) -> Option<u64>
     ensures { result ≡ natural_in_64_bits word.now }
@@ -18,12 +18,12 @@ fn read_u64(word: &str) -> Option<u64>
         [] => None,
         // `parse` takes a plus, which no number has.
         [b'+', ..] => None,
-        digits if digits.len() > 20 => None,
+        digits if digits.len() > MOST_DIGITS => None,
         _ => word.parse().ok(),
     }
 }
 
-/// The number of 1 to 20 digits from `least` to `most`.
+/// The number of 1 to `MOST_DIGITS` digits from `least` to `most`.
 #[tactic(auto, using(crate::proofs::Numbers::in_range))]
 pub(crate) fn read_number(word: &str, least: u64, most: u64) -> Option<u64>
     ensures exact { result ≡ ranged least most word.now }

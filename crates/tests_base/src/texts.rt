@@ -223,7 +223,7 @@ fn numbers_of_any_length_are_read(rt: HostRuntime) -> Result<(), Fail> {
 /// A text, and the column of the token after its first eight zeros, where it begins with them.
 type Zeros = (&'static [u8], Option<u32>);
 
-const ZEROS: &[Zeros] = &[
+const ZERO_TEXTS: &[Zeros] = &[
     (b"0 0 0 0 0 0 0 0 7", Some(17)),
     (b"0 0 0 0 0 0 0 0 0 0", Some(17)),
     (b"0 0 0 0 0 0 0 7 0", None),
@@ -248,18 +248,17 @@ fn after_zeros(bytes: &[u8]) -> Option<u32>
 
 #[test]
 fn eight_zeros_are_passed_over(rt: HostRuntime) {
-    for (bytes, wanted) in ZEROS.iter().copied() {
+    for (bytes, wanted) in ZERO_TEXTS.iter().copied() {
         assert!(rt; bytes.len() < 100);
         equal(&rt, (bytes, after_zeros(bytes)), (bytes, wanted));
     }
 }
 
 /// Appends a line with a count, and the digits.
-fn push_digits(out: &mut Vec<u8>, digits: &[i64]) -> Result<(), OutOfMemory> {
-    push_text(out, "3\n")?;
+fn push_digits(out: &mut Vec<u8>, digits: &[u32]) -> Result<(), OutOfMemory> {
+    push_ended(out, 3)?;
     for digit in digits {
-        push_number(out, *digit)?;
-        push_text(out, " ")?;
+        push_spaced(out, u64::from(*digit))?;
     }
     Ok(())
 }

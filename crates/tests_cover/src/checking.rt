@@ -1,6 +1,6 @@
 //! What a checker says of a cover, and what stands in one.
 
-use bound_cover::{Checker, Cover, CoverArc, Verdict};
+use bound_cover::{Checker, Cover, CoverArc, Reported, Verdict};
 use dp_model::DpModel;
 use knapsack::Knapsack;
 use std::alloc::Global;
@@ -23,7 +23,12 @@ pub fn verdict_on<M: DpModel>(
     assignment: &[u32],
 ) -> Verdict {
     let mut checker = Checker::prepare(alloc, model).expect(rt, "a checker");
-    checker.check(model, best, i64::from(within), assignment, cover)
+    let reported = Reported {
+        best,
+        within: i64::from(within),
+        assignment,
+    };
+    checker.check(model, reported, cover)
 }
 
 /// Stops the test where the verdict is another one.

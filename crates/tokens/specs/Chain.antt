@@ -1,6 +1,11 @@
 -- Chains of readings: a token or a part, and what is read after it. Each grammar has errors of its own, and says which one the fault of a token is.
-use Rattle.std.specs.Prelude.{ℕ, zero, suc, List, ℤ, Bool, false, cond, Result, Ok, Err}
-use Rattle.tokens.specs.Text.{TextState, TextError, number_at, word_at, finish_at, after_token}
+use Rattle.std.specs.Prelude.{ℕ, zero, suc, List, ℤ, Bool, false, nat_eq, cond, Result, Ok, Err}
+use Rattle.std.specs.Cmp.Lexicographic.{pointwise}
+use Rattle.tokens.specs.Text.{TextState, TextError, token, number_at, word_at, finish_at, after_token}
+
+-- whether the next token is this word
+abbrev pub stands : List ℕ → TextState → Bool
+stands word s = pointwise nat_eq (token s) word
 
 -- what was read goes on, and a fault ends the reading
 abbrev pub read_then : {A B E : Type 0} → (TextError → E) → Result A TextError → (A → Result B E) → Result B E

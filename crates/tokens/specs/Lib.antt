@@ -1,6 +1,7 @@
 pub mod Text
 pub mod Scanned
 pub mod Decimal
+pub mod Counts
 pub mod Chain
 pub mod Grammar
 pub mod Naturals

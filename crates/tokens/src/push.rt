@@ -1,5 +1,5 @@
-ghost use Rattle.std.specs.Prelude.{◌≡◌, ◌+◌, ◌≤◌, ◌++◌, length, is_ok, IsOk, if◌then◌else◌, vec_len, vec_capacity};
-ghost use Rattle.tokens.specs.Decimal.{decimal_of};
+ghost use Rattle.std.specs.Prelude.{◌≡◌, ◌+◌, ◌^◌, ◌<◌, ◌≤◌, OnOk, ◌++◌, length, is_ok, IsOk, if◌then◌else◌, vec_len, vec_capacity};
+ghost use Rattle.tokens.specs.Decimal.{decimal_of, ended, spaced};
 
 use itoa::Buffer;
 use std::alloc::AllocError;
@@ -20,4 +20,21 @@ pub fn push_number(out: &mut Vec<u8>, value: i64) -> Result<(), AllocError>
 {
     let mut buffer = Buffer::new();
     out.extend_from_slice(buffer.format(value).as_bytes())
+}
+
+/// Appends a number and a space. Fails only where memory runs out; the number may then stand there without the space.
+pub fn push_spaced(out: &mut Vec<u8>, number: u64) -> Result<(), AllocError>
+    requires { number < 2 ^ 63 }
+    ensures { OnOk result (out.new.items ≡ out.old.items ++ spaced number) }
+{
+    push_number(out, number as i64)?;
+    push_text(out, " ")
+}
+
+/// Appends a number and the end of its line. Fails only where memory runs out; the number may then stand there without the end.
+pub fn push_ended(out: &mut Vec<u8>, number: i64) -> Result<(), AllocError>
+    ensures { OnOk result (out.new.items ≡ out.old.items ++ ended number) }
+{
+    push_number(out, number)?;
+    push_text(out, "\n")
 }

@@ -11,11 +11,20 @@ use crate::comment::Comment;
 use crate::place::Place;
 use crate::text_error::TextError;
 
-/// A number below this has room for a further digit.
+/// Ten times a number below this, and a digit, fit in 64 bits.
 const SURELY_SHORT: u64 = 1 << 59;
 
-/// In this many bytes a number of few digits ends. A loop over so few is written out, and its numbers are surely short.
+/// The bytes that `short_natural` reads. The compiler unrolls a loop of this length, and a number of 12 digits is below `SURELY_SHORT`.
 const WINDOW: usize = 12;
+
+/// How many zeros `Tokens::pass_zeros` passes over at once.
+pub const ZEROS: usize = 8;
+
+/// The bytes of `ZEROS` zeros with a space between each two.
+pub(crate) const ZEROS_LEN: usize = 15;
+
+/// Bytes from here on are not ASCII.
+pub(crate) const NOT_ASCII: u8 = 128;
 
 /// Where a token begins, or the end of the text. It has no padding, which would be copied for each token.
 #[derive(Clone, Copy)]
@@ -202,7 +211,7 @@ pub(crate) fn token_len(bytes: &[u8]) -> usize
     len
 }
 
-/// Whether bytes begin otherwise than a word, which is not empty.
+/// Whether the first byte differs from that of the word. It is `false` where either is empty.
 #[inline]
 fn begin_apart(bytes: &[u8], word: &[u8]) -> bool
     ensures { result ≡ true → pointwise nat_eq (first_token bytes.now) word.now ≡ false }
@@ -387,14 +396,14 @@ pub(crate) fn after_zeros(bytes: &[u8]) -> Option<&[u8]>
 {
     let further = after_four_zeros(bytes)?;
     after_four_zeros(further)?;
-    Some(&bytes[15..])
+    Some(&bytes[ZEROS_LEN..])
 }
 
 /// The number that a first token of few digits writes; `None` where the token is anything else.
 #[inline(always)]
 #[tactic(auto, using(crate::proofs::Windows::window_steps))]
 fn short_natural(bytes: &[u8]) -> Option<Digits<'_>>
-    requires { 12 ≤ length bytes.now }
+    requires { WINDOW ≤ length bytes.now }
     ensures size { IfSome result (λ d. option_map (λ n. min n (2 ^ 64 - 1)) (natural_of (first_token bytes.now)) ≡ Some d.size) }
     ensures digit { IfSome result (λ _. is_ascii_digit (get_or bytes.now 0 0) ≡ true) }
     ensures following { IfSome result (λ d. d.following.now ≡ following_token bytes.now) }
@@ -415,7 +424,7 @@ fn short_natural(bytes: &[u8]) -> Option<Digits<'_>>
 #[inline(always)]
 #[tactic(auto, using(crate::proofs::Windows::read_within))]
 fn short_within(is_negative: bool, digits: &[u8], least: i64, greatest: i64) -> Option<Number<'_>>
-    requires { 12 ≤ length digits.now }
+    requires { WINDOW ≤ length digits.now }
     ensures value { IfSome result (λ n. (place : Place) → in_bounds least greatest place (option_map (signed_of is_negative) (natural_of (first_token digits.now))) ≡ Ok n.value) }
     ensures digit { IfSome result (λ _. is_ascii_digit (get_or digits.now 0 0) ≡ true) }
     ensures range { IfSome result (λ n. (least ≤ℤ n.value) × (n.value ≤ℤ greatest)) }
@@ -541,7 +550,7 @@ pub(crate) fn leading_number<'a>(
     match bytes {
         [b'-', digits @ ..] => negative_within(digits, place, least, greatest),
         [first, ..] if is_blank_byte(*first) => Err(TextError::EndOfText(*place)),
-        [first, ..] if *first >= 128 => Err(TextError::NotAscii(*place)),
+        [first, ..] if *first >= NOT_ASCII => Err(TextError::NotAscii(*place)),
         [_, ..] => number_within(false, bytes, place, least, greatest),
         [] => Err(TextError::EndOfText(*place)),
     }

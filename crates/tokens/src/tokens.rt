@@ -7,8 +7,8 @@ ghost use Rattle.tokens.specs.Text.{text_start, at_token, IsCountable, token, pl
 use crate::comment::Comment;
 use crate::place::Place;
 use crate::scan::{
-    Spot, after_one_blank, after_zeros, following_word, leading_number, short_number, skip_blanks,
-    skip_comments, token_len,
+    NOT_ASCII, Spot, ZEROS, ZEROS_LEN, after_one_blank, after_zeros, following_word,
+    leading_number, short_number, skip_blanks, skip_comments, token_len,
 };
 use crate::text_error::TextError;
 use std::marker::Model;
@@ -183,8 +183,8 @@ impl<'a> Tokens<'a> {
     #[inline(always)]
     #[tactic(auto, using(crate::proofs::Zeros::zero_steps))]
     fn after_next_zeros(&self) -> Option<Here<'a>>
-        ensures zeros { is_some result ≡ true → ZerosFollow 8 self.now }
-        ensures stands { IfSome result (λ h. record { rest = h.rest.now; place = h.place; fresh = h.fresh; comment = self.now.comment } ≡ passed_over 8 self.now) }
+        ensures zeros { is_some result ≡ true → ZerosFollow ZEROS self.now }
+        ensures stands { IfSome result (λ h. record { rest = h.rest.now; place = h.place; fresh = h.fresh; comment = self.now.comment } ≡ passed_over ZEROS self.now) }
         ensures countable { IfSome result (λ h. IsCountable h.place h.rest.now) }
         ensures on_line { IfSome result (λ h. h.fresh ≡ false) }
     {
@@ -197,7 +197,7 @@ impl<'a> Tokens<'a> {
             rest: following,
             place: Place {
                 line: spot.place.line,
-                column: spot.place.column + 15,
+                column: spot.place.column + ZEROS_LEN as u32,
             },
             fresh: false,
         })
@@ -208,8 +208,8 @@ impl<'a> Tokens<'a> {
     #[inline(always)]
     #[tactic(auto, unfolding(crate::specs::Text::at_token))]
     pub fn pass_zeros(&mut self) -> bool
-        ensures zeros { result ≡ true → ZerosFollow 8 self.old }
-        ensures passed { result ≡ true → self.new ≡ passed_over 8 self.old }
+        ensures zeros { result ≡ true → ZerosFollow ZEROS self.old }
+        ensures passed { result ≡ true → self.new ≡ passed_over ZEROS self.old }
         ensures other { result ≡ false → self.new ≡ self.old }
     {
         let Some(here) = self.after_next_zeros() else {
@@ -276,6 +276,17 @@ impl<'a> Tokens<'a> {
         Ok(number as u64)
     }
 
+    /// Reads the next token as a natural number of 32 bits, with the faults of `next_number`.
+    #[inline(always)]
+    pub fn next_u32(&mut self) -> Result<u32, TextError>
+        ensures value { MatchResult result (λ n. number_at (pos 0) (pos (2 ^ 32 - 1)) self.old ≡ Ok (pos n)) (λ e. number_at (pos 0) (pos (2 ^ 32 - 1)) self.old ≡ Err e) }
+        ensures ok { OnOk result (self.new ≡ after_token self.old) }
+        ensures err { OnErr result (self.new ≡ self.old) }
+    {
+        let number = self.next_natural(0, u64::from(u32::MAX))?;
+        Ok(number as u32)
+    }
+
     /// Reads the next token as it stands.
     ///
     /// `EndOfText` where no token is left, `NotAscii` where its first byte is not ASCII, each at the
@@ -292,7 +303,7 @@ impl<'a> Tokens<'a> {
         let [first, ..] = word else {
             return Err(TextError::EndOfText(self.place()));
         };
-        if *first >= 128 {
+        if *first >= NOT_ASCII {
             return Err(TextError::NotAscii(self.place()));
         }
         self.pass(&rest[len..]);
@@ -328,7 +339,7 @@ impl<'a> Tokens<'a> {
         let [first, ..] = &spot.rest[..token_len(spot.rest)] else {
             return Ok(());
         };
-        if *first >= 128 {
+        if *first >= NOT_ASCII {
             return Err(TextError::NotAscii(spot.place));
         }
         Err(TextError::Trailing(spot.place))

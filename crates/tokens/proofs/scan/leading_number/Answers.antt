@@ -14,6 +14,6 @@ returns-in-45-clause-following c =
 pub returns-in-len1-up-3-clause-value : goal.returns-in-len1-up-3-clause-value
 returns-in-len1-up-3-clause-value c =
     let other : get_or c.args.bytes.now 0 0 ≢ 45 = search rules in
-    let low : get_or c.args.bytes.now 0 0 < 128 = omega (arith, c.if-first-ge128.false) in
+    let low : get_or c.args.bytes.now 0 0 < 128 = omega (arith, c.if-first-ge-NOT_ASCII.false) in
     let same = plain_number c.args.least c.args.greatest c.args.place.now c.args.bytes.now c.in-len1-up.len_at_least other (sym c.is_blank_byte.ensures ∙ c.if-is_blank_byte.false) low in
     search rules

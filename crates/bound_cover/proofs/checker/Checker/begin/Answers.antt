@@ -9,4 +9,4 @@ laws_of g m = (g.met.M.DpModel g.world.𝓛 g.world.𝓜 g.world.𝓡 ((λ s x. 
 
 pub claim_of-claim-requires-clause-value : goal.claim_of-claim-requires-clause-value
 claim_of-claim-requires-clause-value g c =
-    reported-far (g.M.DpModel.meaning (g.M.DpModel.numbers c.args.model.now)) (laws_of g c.args.model.now) c.args.best c.args.assignment.now (sym c.solution_fault-why.ensures ∙ c.in-None.is)
+    reported-far (g.M.DpModel.meaning (g.M.DpModel.numbers c.args.model.now)) (laws_of g c.args.model.now) c.args.reported.best c.args.reported.assignment.now (sym c.solution_fault-why.ensures ∙ c.in-None.is)

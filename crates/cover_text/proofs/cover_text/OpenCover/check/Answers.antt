@@ -14,7 +14,7 @@ returns-in-Err g c =
     let least = c.requires.distance.least in
     let most = c.requires.distance.most in
     let fits : FitsSigned w64 o.within = omega (arith, ints) in
-    let within = subst (λ w. Fails c.in-Err.fault (tested_sections dp o.best w c.as_slice-assignment.result.now o.following)) (to_z-of_z w64 o.within fits) c.in-Err.ensures in
-    let fails = subst (λ x. Fails c.in-Err.fault (tested_sections dp o.best o.within x o.following)) c.as_slice-assignment.ensures.value within in
+    let within = subst (λ w. Fails c.in-Err.fault (tested_sections dp o.best w c.as_slice.result.now o.following)) (to_z-of_z w64 o.within fits) c.in-Err.ensures in
+    let fails = subst (λ x. Fails c.in-Err.fault (tested_sections dp o.best o.within x o.following)) c.as_slice.ensures.value within in
     rw (c.placed.ensures, after_tested dp o)
     (moved-fails (end_place o.before) c.in-Err.fault (tested_sections dp o.best o.within o.assignment o.following) fails)

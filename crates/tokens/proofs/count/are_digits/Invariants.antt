@@ -1,6 +1,6 @@
 use Rattle.std.proofs.Common.{◌≡◌, length}
 use Rattle.std.specs.Str.{all_ascii_digits}
-use Rattle.cover_text.proofs.head.are_digits.Given as goal
+use Rattle.tokens.proofs.count.are_digits.Given as goal
 
 abbrev pub invariant-loop-rest : goal.invariant-loop-rest
 invariant-loop-rest l = all_ascii_digits l.rest ≡ all_ascii_digits l.word
