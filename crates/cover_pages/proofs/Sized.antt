@@ -13,11 +13,11 @@ use Rattle.relaxed_dd.specs.Shown.{layer_in}
 -- a node counts for its arcs
 pub node-leaves-none : (words left size arcs : ℕ) (o : Option DdNode) → option_map (λ (n : DdNode). length n.arcs) o ≡ Some arcs → size ≡ words + 2 + 2 * arcs → left < size → LeavesAt words left o None
 node-leaves-none words left size arcs None e s less = absurd (none-some arcs e)
-node-leaves-none words left size arcs (Some n) e s less = let a = same_Some (length n.arcs) arcs e in omega arith
+node-leaves-none words left size arcs (Some n) e s less = let a = same_Some (length n.arcs) arcs e in let b = length-map n.arcs bare_arc in omega arith
 
 pub node-leaves : (words left size arcs rest : ℕ) (o : Option DdNode) → option_map (λ (n : DdNode). length n.arcs) o ≡ Some arcs → size ≡ words + 2 + 2 * arcs → size ≤ left → rest + size ≡ left → LeavesAt words left o (Some rest)
 node-leaves words left size arcs rest None e s more is = absurd (none-some arcs e)
-node-leaves words left size arcs rest (Some n) e s more is = let a = same_Some (length n.arcs) arcs e in omega arith
+node-leaves words left size arcs rest (Some n) e s more is = let a = same_Some (length n.arcs) arcs e in let b = length-map n.arcs bare_arc in omega arith
 
 -- of a list of things of such sizes
 pub leaves-more : {X : Type 0} (f : X → ℕ) (xs : List X) (i : ℕ) (x : X) (left now rest : ℕ) → slice_get xs i ≡ Some x → Leaves now (f x) (Some rest) → now + sum_by f (take i xs) ≡ left → rest + sum_by f (take (i + 1) xs) ≡ left
@@ -51,7 +51,6 @@ layer-sizes words (n ∷ ns) =
     let a = sum_by-cons (node_size words) (node_of n) (map node_of ns) in
     let b = sum_by-cons (node_words words) n ns in
     let rest = layer-sizes words ns in
-    let arcs : length (map bare_arc n.arcs) ≡ length n.arcs = length-map n.arcs bare_arc in
     omega arith
 
 all-sizes : (words : ℕ) (layers : List (List DdNode)) → sum_by (λ (layer : List NodeView). sum_by (node_size words) layer) (map (map node_of) layers) ≡ words_of words layers

@@ -10,7 +10,7 @@ use Rattle.cover_pages.specs.Books.{BookView}
 abbrev pub head_in : BookView → ℕ → Option PageHead
 head_in book page = option_map (λ (p : PageView). p.head) (slice_get book.pages page)
 
--- its layers; a page that there is not has none
+-- its layers; none if there is no such page
 abbrev pub layers_in : BookView → ℕ → List (List NodeView)
 layers_in book page = unwrap_or (option_map (λ (p : PageView). p.layers) (slice_get book.pages page)) []
 

@@ -1,10 +1,11 @@
 -- How many words diagrams count for.
 use Rattle.std.specs.Prelude.{◌≡◌, ℕ, ◌+◌, ◌*◌, ◌<◌, List, [], ◌∷◌, length, sum_by, Option, Some, None}
 use Rattle.dp_laws.specs.Diagrams.Nodes.{DdNode}
+use Rattle.cover_pages.specs.Pages.{node_of, node_size}
 
 -- a node of a diagram
 abbrev pub node_words : ℕ → DdNode → ℕ
-node_words words n = words + 2 + 2 * length n.arcs
+node_words words n = node_size words (node_of n)
 
 -- a layer
 abbrev pub layer_words : ℕ → List DdNode → ℕ

@@ -3,8 +3,8 @@
 use board_laws::Fate;
 use bound_cover::CoverArc;
 
-/// Where a child's node stands in its diagram.
-#[derive(Clone, Copy, Debug, PartialEq, Eq, Hash)]
+/// Where a child's node stands in its diagram. Places are ordered by depth first.
+#[derive(Clone, Copy, Debug, PartialEq, Eq, PartialOrd, Ord, Hash)]
 pub struct Place {
     /// The depth of its layer.
     pub depth: usize,

@@ -21,7 +21,7 @@ impl CoverBook {
         Some(self.pages.get(page)?.head)
     }
 
-    /// How many layers a page has; a page that there is not has none.
+    /// How many layers a page has; 0 if there is no such page.
     pub fn layers(&self, page: usize) -> usize
         ensures { result ≡ length (layers_in self.now page) }
     {
@@ -31,7 +31,7 @@ impl CoverBook {
         }
     }
 
-    /// How many nodes a layer of a page has, where layers count from 0; a layer that there is not has none.
+    /// How many nodes a layer of a page has, where layers count from 0; 0 if there is no such layer.
     pub fn nodes(&self, page: usize, layer: usize) -> usize
         ensures { result ≡ length (nodes_in self.now page layer) }
     {
@@ -55,7 +55,7 @@ impl CoverBook {
         Some(body.shown(self.rows.row(id)))
     }
 
-    /// How many children a page has; a page that there is not has none.
+    /// How many children a page has; 0 if there is no such page.
     pub fn children(&self, page: usize) -> usize
         ensures { result ≡ length (children_in self.now page) }
     {

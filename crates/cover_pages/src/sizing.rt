@@ -8,13 +8,19 @@ ghost use Rattle.cover_pages.specs.Sizes.{Leaves, LeavesAt, layer_words, words_o
 
 use relaxed_dd::Diagram;
 
+/// The words that a node counts for beside its row.
+const NODE_WORDS: u128 = 2;
+
+/// The words that an arc counts for.
+const ARC_WORDS: u128 = 2;
+
 /// What a node leaves.
 fn node_leaves(words: usize, diagram: &Diagram, depth: usize, node: usize, left: u64) -> Option<u64>
     requires first { (layers_of diagram.now).first ≤ depth }
     requires place { IsSome (node_at (layers_of diagram.now) depth node) }
     ensures { LeavesAt words left (node_at (layers_of diagram.now) depth node) result }
 {
-    let size = words as u128 + 2 + 2 * diagram.arcs(depth, node) as u128;
+    let size = words as u128 + NODE_WORDS + ARC_WORDS * diagram.arcs(depth, node) as u128;
     if size > left as u128 {
         return None;
     }

@@ -13,7 +13,7 @@ pub record IsLater (dp : Dp) (b later : BoardState) : Type 0 where
   pub run : IsRun dp b steps later
   pub slots : later.slots ≡ b.slots
 
--- no round can follow: where something is open or out and no cause is held, the budget is taken up
+-- no round can follow: where something is open or out and no cause is held, the budget is used up
 abbrev pub NoRoundFollows : BoardState → Type 0
 NoRoundFollows b = is_explored b ≡ false → b.cause ≡ None → IsTrue (is_budget_up b)
 

@@ -58,6 +58,9 @@ pub(crate) fn collect_from<M: DpModel>(alloc: Global, desk: &mut Desk, model: &M
     ensures book { MayBeBook (M.meaning (M.numbers model.now)) desk.new.book }
     ensures rest { desk.new ≡ record desk.old { book = desk.new.book } }
 {
+    let Some(ticket) = desk.ticket else {
+        return;
+    };
     let Some(book) = &mut desk.book else {
         return;
     };
@@ -65,13 +68,5 @@ pub(crate) fn collect_from<M: DpModel>(alloc: Global, desk: &mut Desk, model: &M
     if fates.len() != desk.cutset.len() {
         return;
     }
-    let _ = collect(
-        alloc,
-        book,
-        desk.ticket,
-        &desk.space,
-        &desk.cutset,
-        fates,
-        model,
-    );
+    let _ = collect(alloc, book, ticket, &desk.space, &desk.cutset, fates, model);
 }

@@ -1,4 +1,5 @@
 ghost use Rattle.std.specs.Prelude.{◌≡◌, ◌<◌, ◌≤◌, IfOk};
+ghost use Rattle.dp_model.specs.declared.limits.TheConstants.{MOST_LAYER_PARTS};
 ghost use Rattle.search_workers.specs.Collected.{MayBeBook};
 ghost use Rattle.search_workers.specs.Prepared.{AreDesks};
 
@@ -10,13 +11,13 @@ use exact_cutset::Children;
 use layer_build::{PrepareError, Workspace};
 use std::alloc::Global;
 
-/// All that one worker needs for its rounds: the subproblem that it has out with its ticket, the memory in which diagrams are compiled, their
-/// children and of which kind these are, a buffer for fates, which grows to the size that rounds need and is used again, perhaps a
-/// book that collects the relaxed diagrams, and in how many parts the layers of these are made.
+/// All that one worker needs for its rounds: the subproblem that it took last, with its ticket if it is under a turn, the memory in which
+/// diagrams are compiled, their children and of which kind these are, a buffer for fates, which grows to the size that rounds need and is
+/// used again, perhaps a book that collects the relaxed diagrams, and in how many parts the layers of these are made.
 #[derive(Drop)]
 pub struct Desk {
     pub taken: Sub,
-    pub ticket: u64,
+    pub ticket: Option<u64>,
     pub space: Workspace,
     pub cutset: Children,
     pub kind: CutKind,
@@ -28,7 +29,8 @@ pub struct Desk {
 impl Desk {
     /// A desk for the rounds on the model with diagrams of the width, which is at least 1 and at most the greatest one, and with
     /// their children of the kind. Where there is a book, it has diagrams of the model's instance alone. The layers of relaxed
-    /// diagrams are made in this many parts, from 1 to 64.
+    /// diagrams are made in this many parts, from 1 to
+    /// `MOST_LAYER_PARTS`.
     pub fn prepare<M: DpModel>(
         alloc: Global,
         model: &M,
@@ -39,7 +41,7 @@ impl Desk {
     ) -> Result<Desk, PrepareError>
         requires book { MayBeBook (M.meaning (M.numbers model.now)) book }
         requires some_parts { 0 < parts }
-        requires few_parts { parts ≤ 64 }
+        requires few_parts { parts ≤ MOST_LAYER_PARTS }
         ensures desk { AreDesks (M.meaning (M.numbers model.now)) width result }
         ensures kind { IfOk result (λ desk. desk.kind ≡ kind) }
         ensures book { IfOk result (λ desk. desk.book ≡ book) }
@@ -50,7 +52,7 @@ impl Desk {
         match Sub::blank(alloc, model.vars(), model.words()) {
             Ok(taken) => Ok(Desk {
                 taken,
-                ticket: 0,
+                ticket: None,
                 space,
                 cutset,
                 kind,

@@ -4,9 +4,14 @@
 //! value and the distance of the settings; the beam is offered as a solution. Where the width took nothing from that diagram, no
 //! completion is better than the threshold and the beam, so the subproblem is finished without children. Otherwise its relaxed
 //! diagram is compiled with the reach as it is then; the solution that it finds is offered, and its children are those of the kind
-//! that the desk was prepared for. A worker whose desk has a book puts the relaxed diagram into it once the subproblem is finished, so it
-//! compiles that diagram in either case. A worker makes the layers of relaxed diagrams in as many parts as its desk says, and the
-//! diagrams are the same with any number of them.
+//! that the desk was prepared for.
+//!
+//! Two fields of a desk concern `work` alone; `explore` ignores them. If the desk has a book, `work` puts the relaxed diagram into it once
+//! the subproblem is finished, and compiles that diagram for every subproblem. `parts` says in how many parts `work` makes the layers of
+//! relaxed diagrams; the diagrams do not depend on it.
+//!
+//! The crate stands on `kept_board` for the board, on `turn` for sharing it, on `layer_build`, `restricted_dd`, `relaxed_dd`, `wide_layers` and
+//! `exact_cutset` for diagrams and their children, and on `cover_pages` for books.
 //!
 //! The crate has two parts, and a `Desk` is what a round needs in either:
 //!

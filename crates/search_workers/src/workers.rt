@@ -1,10 +1,10 @@
 //! Workers over one board under a turn, each with a seat and a desk of its own.
 //!
 //! Each function of the `holding` modules holds the turn once, makes one move, and leaves; its contract says what the seat knows
-//! then. What it does with the board meanwhile stands in `moving`. What a worker proves against the reach by what its seat has
-//! seen stays enough on any board that it can find later, so a Finish is never refused for a value or a slot that has changed. A whole
-//! search is workers behind the turn, then rounds on the closed board until the search ends, so that what it gives doesn't rest on
-//! how a worker ended.
+//! then. What it does with the board meanwhile stands in `moving`. A worker checks its children against the last incumbent that its seat
+//! has seen. The incumbent never gets worse, so the check stays valid, and a Finish is never refused because another worker changed the
+//! board. A whole search runs workers under the turn, then rounds on the closed board until the search ends. So its result does not
+//! depend on how a worker ended.
 
 mod crew;
 mod fanning;

@@ -26,15 +26,13 @@ use super::offering::offer;
 use disk::Disk;
 use dp_model::{CutKind, DpModel, Sub};
 use exact_cutset::{Children, children};
+use journal_bytes::BODY_LIMIT;
 use kept_board::{Kept, KeptError};
 use layer_build::Workspace;
 use relaxed_dd::{Diagram, compile, compile_with, shown};
 use std::alloc::Global;
 use std::thread::Threads;
 use wide_layers::Way;
-
-/// A record's body has fewer bytes: 2^32.
-const MOST_BYTES: u64 = 1 << 32;
 
 /// What the restricted diagram of a subproblem leaves.
 #[derive(Clone, Copy, Debug)]
@@ -194,7 +192,7 @@ fn take_frontier<M: DpModel>(model: &M, diagram: &Diagram, cutset: &mut Children
     ensures prepared { IsListPreparedFor (M.meaning (M.numbers model.now)) (width_of diagram.now) CutKind.Frontier cutset.new }
 {
     children(model, diagram, CutKind::Frontier, cutset);
-    if cutset.size() >= MOST_BYTES {
+    if cutset.size() >= BODY_LIMIT {
         children(model, diagram, CutKind::LastExactLayer, cutset);
     }
 }

@@ -25,7 +25,7 @@ use dp_model::DpModel;
 use kept_board::{Kept, KeptError};
 use std::alloc::Global;
 
-/// Does rounds until nothing is open, a cause is held or the budget is taken up. Board and model are of one instance, the
+/// Does rounds until nothing is open, a cause is held or the budget is used up. Board and model are of one instance, the
 /// board has a slot and nothing is out, and the desk was prepared for the model and the width of the board's settings.
 ///
 /// Where memory is refused, the search is halted for want of memory, and where a call of the disk fails, it is halted for the

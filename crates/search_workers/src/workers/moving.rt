@@ -1,6 +1,6 @@
 //! What a worker does with the board while it holds the turn: each function makes one move, or none.
 
-ghost use Rattle.std.specs.Prelude.{◌≡◌, ◌≢◌, ◌⊎◌, ℕ, ◌<◌, true, false, [], None, Some, option_map, unwrap_or, IsSome, IfOk, OnOk, IfErr, MatchBool};
+ghost use Rattle.std.specs.Prelude.{◌≡◌, ◌≢◌, ◌⊎◌, ℕ, ◌<◌, true, false, [], None, Some, option_map, IsSome, IfOk, OnOk, IfErr, MatchBool};
 ghost use Rattle.board_laws.specs.Board.{incumbent_value, reach, slot_at};
 ghost use Rattle.board_laws.specs.Steps.{given_back, halted};
 ghost use Rattle.board_laws.specs.declared.cause.Cause.TheVariants.{Journal, Memory};
@@ -25,11 +25,12 @@ use dp_model::{DpModel, Sub};
 use kept_board::Kept;
 use std::alloc::Global;
 
-/// What a worker got that asked for a subproblem, with its ticket, which is 0 where it got none, and the reach as it was then.
+/// The answer to a worker that asked for a subproblem, and the reach at that time.
 #[derive(Clone, Copy, Debug)]
 pub struct Asked {
     pub taken: Taken,
-    pub ticket: u64,
+    /// The ticket of the subproblem, or `None` if the worker got none.
+    pub ticket: Option<u64>,
     pub reach: Option<i64>,
 }
 
@@ -47,7 +48,7 @@ pub fn take<M: DpModel, D: Disk>(
     ensures ended { IfOver result.taken (NoRoundFollows kept.new.board.board) }
     ensures reach { result.reach ≡ reach kept.new.board.board }
     ensures waits { result.taken ≡ Taken.WaitForOthers → (kept.new.board.board.open_ones ≡ []) × (kept.new.board.board.cause ≡ None) }
-    ensures ticket { result.ticket ≡ unwrap_or (option_map (λ o. o.ticket) (slot_at kept.new.board.board who)) 0 }
+    ensures ticket { result.ticket ≡ option_map (λ o. o.ticket) (slot_at kept.new.board.board who) }
     ensures out { TakenOut (M.meaning (M.numbers model.now)) result.taken (out_at kept.new.board.board who) into.new.subproblem }
     ensures room { CanHold (M.meaning (M.numbers model.now)) into.new }
     ensures moves { (kept.new ≡ kept.old) ⊎ IsMove D.Disk M.meaning kept.old kept.new who }
@@ -57,7 +58,7 @@ pub fn take<M: DpModel, D: Disk>(
     let taken = kept.take(who, into);
     // What every board keeps of what is out.
     kept.board().facts();
-    let ticket = kept.board().slot_ticket(who).unwrap_or(0);
+    let ticket = kept.board().slot_ticket(who);
     let reach = kept.board().reach();
     Asked {
         taken,

@@ -33,7 +33,7 @@ use std::sync::Wait;
 use std::thread::Threads;
 use turn::{Seat, Turn};
 
-/// Does rounds until nothing is open or out, a cause is held or the budget is taken up, and passes the gate after each step. Each step
+/// Does rounds until nothing is open or out, a cause is held or the budget is used up, and passes the gate after each step. Each step
 /// of the board is one holding of the turn, and diagrams are compiled outside the turn. Once a subproblem is finished, the worker holds
 /// again and writes a snapshot where one is due and worth its bytes.
 ///
