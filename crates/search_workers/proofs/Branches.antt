@@ -29,7 +29,7 @@ use Rattle.board_laws.specs.Board.{BoardState, reach}
 use Rattle.board_laws.specs.GoodBoard.{IncumbentHolds}
 use Rattle.layer_build.specs.Layers.{IsWidth}
 use Rattle.restricted_dd.specs.Beams.{ShowsBeam}
-use Rattle.exact_cutset.specs.Seen.{ShowsSolution}
+use Rattle.layer_build.specs.Finding.{IsFound}
 use Rattle.search_workers.specs.Branched.{AreBranched, IsBranched}
 use Rattle.search_workers.specs.Offered.{beam_value, found_solution}
 use Rattle.search_workers.specs.Taken.{kind_taken, taken_from}
@@ -96,11 +96,11 @@ whole-branched dp laws b p w t found prefix whole shows low best = whole-branche
 -- The relaxed diagram.
 
 -- what is shown is the solution
-pub shown-solution : (s : Option Solution) (f : Option Found) → ShowsSolution s f → found_solution f ≡ s
+pub shown-solution : (s : Option Solution) (f : Option Found) → IsFound s f → found_solution f ≡ s
 shown-solution None None shows = refl
 shown-solution None (Some f) shows = absurd shows
 shown-solution (Some s) None shows = absurd shows
-shown-solution (Some s) (Some f) shows = ap Some (same-solution f.decisions.now s.decisions f.value s.value shows.decisions shows.value)
+shown-solution (Some s) (Some f) shows = ap Some (same-solution f.decisions.now s.decisions f.value s.value shows.1 shows.0)
 
 found-completes : (dp : Dp) (p : List ℕ) (found : Option Solution) → FoundCompletes dp p found → IncumbentHolds dp found
 found-completes dp p None h = tt

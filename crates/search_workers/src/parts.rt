@@ -4,7 +4,7 @@ ghost use Rattle.dp_model.specs.declared.limits.TheConstants.{MOST_LAYER_PARTS};
 use std::alloc::Global;
 use std::marker::Model;
 use std::thread::Threads;
-use wide_layers::Way;
+use wide_layers::Expander;
 
 /// In how many parts a layer of a relaxed diagram is made: from 1 to `MOST_LAYER_PARTS`. With 1 it is made by the worker alone.
 #[derive(Clone, Copy, Debug)]
@@ -35,8 +35,8 @@ impl Parts {
         Parts { count }
     }
 
-    /// The way to expand layers in this many parts, each by a thread of the runtime where one can be made. It takes no memory.
-    pub(crate) fn way<'r, R: Threads + Sync>(self, rt: &'r R, alloc: Global) -> Way<'r, R> {
-        Way::in_parts(rt, alloc, self.count)
+    /// What expands layers in this many parts, each by a thread of the runtime where one can be made. It takes no memory.
+    pub(crate) fn expander<'r, R: Threads + Sync>(self, rt: &'r R, alloc: Global) -> Expander<'r, R> {
+        Expander::in_parts(rt, alloc, self.count)
     }
 }

@@ -32,7 +32,7 @@ use layer_build::Workspace;
 use relaxed_dd::{Diagram, compile, compile_with, shown};
 use std::alloc::Global;
 use std::thread::Threads;
-use wide_layers::Way;
+use wide_layers::Expander;
 
 /// What the restricted diagram of a subproblem leaves.
 #[derive(Clone, Copy, Debug)]
@@ -143,7 +143,7 @@ fn fill<M: DpModel>(
     take_children(model, &shown(space), kind, cutset);
 }
 
-/// Fills `cutset` as `fill` does, whatever the way is in which the layers of the diagram are expanded. The way may take memory.
+/// Fills `cutset` as `fill` does, whatever expands the layers of the diagram. The expander may take memory.
 pub fn fill_with<M: DpModel, R: Threads + Sync>(
     space: &mut Workspace,
     cutset: &mut Children,
@@ -151,7 +151,7 @@ pub fn fill_with<M: DpModel, R: Threads + Sync>(
     threshold: Option<i64>,
     kind: CutKind,
     model: &M,
-    way: &mut Way<'_, R>,
+    expander: &mut Expander<'_, R>,
 )
     requires own { IsOwn (M.meaning (M.numbers model.now)) taken.now.subproblem }
     requires prepared { IsPreparedFor (M.meaning (M.numbers model.now)) space.old }
@@ -163,7 +163,7 @@ pub fn fill_with<M: DpModel, R: Threads + Sync>(
     ensures width { space.new.width ≡ space.old.width }
     ensures cutset { HoldsChildren (M.meaning (M.numbers model.now)) space.old.width kind cutset.new }
 {
-    compile_with(space, model, taken, threshold, way);
+    compile_with(space, model, taken, threshold, expander);
     take_children(model, &shown(space), kind, cutset);
 }
 

@@ -131,7 +131,7 @@ pub fn fill_desk<M: DpModel, D: Disk + Send, G, R: Threads + Sync>(
     ensures room { HasDeskRoom (M.meaning (M.numbers crew.now.model.now)) (first_of crew.now.turn.now).board.board.settings.width desk.new }
     ensures rest { desk.new ≡ record desk.old { space = desk.new.space; cutset = desk.new.cutset } }
 {
-    let mut way = desk.parts.way(crew.rt, crew.alloc);
+    let mut expander = desk.parts.expander(crew.rt, crew.alloc);
     fill_with(
         &mut desk.space,
         &mut desk.cutset,
@@ -139,7 +139,7 @@ pub fn fill_desk<M: DpModel, D: Disk + Send, G, R: Threads + Sync>(
         threshold,
         desk.kind,
         crew.model,
-        &mut way,
+        &mut expander,
     );
 }
 
