@@ -1,4 +1,4 @@
-//! Diagrams as covers are made of them: compiled ones, and those that a book keeps.
+//! Relaxed diagrams as their readers show them. An exploration puts such diagrams into its cover.
 
 ghost use Rattle.std.specs.Prelude.{◌≡◌, ◌≤◌, true, Some, IsSome, length, slice_get, option_map, option_and_then};
 ghost use Rattle.dp_laws.specs.Diagrams.Nodes.{DdLayers, node_at};

@@ -13,7 +13,7 @@ use crate::waiting::{WaitingRow, add_waiting, number_at};
 use dp_model::{DpModel, OutOfMemory, Sub};
 use std::alloc::Global;
 
-/// Puts the rows of those nodes of the last exact layer after the others that lead above the claim.
+/// Adds the nodes of the last exact layer that lead above the claim to the waiting rows, after those that are there.
 fn add_cut<M: DpModel, D: ShownDiagram>(
     alloc: Global,
     model: &M,

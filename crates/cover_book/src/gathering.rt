@@ -1,4 +1,4 @@
-//! Layers of rows that diagrams leave, of which an exploration keeps some.
+//! Layers of rows that diagrams supply. An exploration keeps some of them.
 
 ghost use Rattle.std.specs.Prelude.{◌≡◌, ◌≤◌, ◌<◌, OnOk, length};
 ghost use Rattle.bound_cover.specs.Clamping.{AreWritable, IsWritable};
@@ -13,8 +13,8 @@ use bound_cover::{Cover, CoverArc, MOST_BOUND, MOST_ROWS, is_state_row};
 use dp_model::{DpModel, OutOfMemory};
 use std::alloc::Global;
 
-/// How many rows of a layer serve others while it is gathered.
-const MOST_SERVERS: usize = 1;
+/// The greatest number of serving rows of a layer while its rows are gathered.
+const MOST_GATHERED_SERVERS: usize = 1;
 
 /// A row that waits, by its number in its layer.
 #[derive(Debug, Drop)]
@@ -41,7 +41,7 @@ impl<'m, M: DpModel> Gathered<'m, M> {
         Gathered {
             rows: Cover::new(alloc),
             waiting: Vec::new(alloc),
-            servers: Servers::new(alloc, model, depth, MOST_SERVERS),
+            servers: Servers::new(alloc, model, depth, MOST_GATHERED_SERVERS),
             arcs: Vec::new(alloc),
         }
     }

@@ -7,9 +7,12 @@ use crate::rows::{is_deep, is_last_exact};
 use crate::sources::{Below, NodeRow, RowSource, Wait};
 use board_laws::Fate;
 use bound_cover::CoverArc;
-use cover_pages::{CoverBook, PageHead, PageNode};
+use cover_pages::{CoverBook, PageHead, PageNode, Place};
 use dp_model::OutOfMemory;
 use std::alloc::Global;
+
+/// The ticket of the whole problem.
+pub(crate) const ROOT_TICKET: u64 = 0;
 
 /// Where the page of a ticket stands.
 #[derive(Clone, Copy, Debug, PartialEq, Eq, PartialOrd, Ord)]
@@ -56,8 +59,8 @@ pub(crate) struct Page<'b> {
     layers: usize,
     // whether its children are those of the frontier
     has_frontier: bool,
-    // of its children in order: the depths and the places of their nodes
-    places: Vec<(usize, usize)>,
+    // where the nodes of its children stand, in order
+    places: Vec<Place>,
 }
 
 /// The ticket of the subproblem that stands for a child; none where there is none, as its bound is too low.
@@ -71,29 +74,15 @@ fn ticket_of(fate: Fate) -> Option<u64> {
     }
 }
 
-/// Puts in a child with its fate.
-fn add_child(
-    mut at: Origin,
-    fate: Fate,
-    origins: &mut Vec<Origin>,
-    successors: &mut Vec<Successor>,
-) -> Result<(), OutOfMemory> {
+/// The ticket that a child got, where it got one.
+fn own_ticket(fate: Fate) -> Option<u64> {
     match fate {
-        Fate::Replaced { ticket, old } => {
-            successors.push(Successor { old, ticket })?;
-            at.ticket = ticket;
-            origins.push(at)?;
-        }
-        Fate::Entered { ticket } => {
-            at.ticket = ticket;
-            origins.push(at)?;
-        }
-        Fate::Below | Fate::Kept { .. } | Fate::Dominated { .. } => {}
+        Fate::Replaced { ticket, .. } | Fate::Entered { ticket } => Some(ticket),
+        Fate::Below | Fate::Kept { .. } | Fate::Dominated { .. } => None,
     }
-    Ok(())
 }
 
-/// Puts in the children of a page.
+/// Puts in the children of a page that got tickets, with those tickets that took the place of others.
 fn add_children(
     number: usize,
     book: &CoverBook,
@@ -103,13 +92,17 @@ fn add_children(
 ) -> Result<(), OutOfMemory> {
     'children: for i in 0..book.children(page) {
         if let Some(child) = book.child(page, i) {
-            let at = Origin {
-                ticket: 0,
-                book: number,
-                page,
-                child: i,
-            };
-            add_child(at, child.fate, origins, successors)?;
+            if let Fate::Replaced { ticket, old } = child.fate {
+                successors.push(Successor { old, ticket })?;
+            }
+            if let Some(ticket) = own_ticket(child.fate) {
+                origins.push(Origin {
+                    ticket,
+                    book: number,
+                    page,
+                    child: i,
+                })?;
+            }
         }
     }
     Ok(())
@@ -172,9 +165,9 @@ impl<'b> Pages<'b> {
         page_of(alloc, book, at.page, self.decisions_of(at.ticket))
     }
 
-    /// The decisions of the subproblem with a ticket; that of the whole problem is 0.
+    /// The decisions of the subproblem with a ticket.
     fn decisions_of(&self, ticket: u64) -> Option<&'b [u32]> {
-        if ticket == 0 {
+        if ticket == ROOT_TICKET {
             return Some(&[]);
         }
         let at = match self
@@ -225,7 +218,7 @@ fn page_of<'b>(
     'children: for i in 0..book.children(page) {
         if let Some(child) = book.child(page, i) {
             has_frontier = has_frontier || is_deep(head.first_reduced, child.place.depth);
-            places.push((child.place.depth, child.place.node))?;
+            places.push(child.place)?;
         }
     }
     Ok(Some(Page {
@@ -337,10 +330,7 @@ impl<'b> RowSource for Page<'b> {
     }
 
     fn wait(&self, alloc: Global, depth: usize, node: usize) -> Result<Option<Wait>, OutOfMemory> {
-        let Ok(i) = self
-            .places
-            .binary_search_by_key(&(depth, node), |place| *place)
-        else {
+        let Ok(i) = self.places.binary_search(&Place { depth, node }) else {
             return Ok(None);
         };
         let Some(child) = self.book.child(self.page, i) else {

@@ -19,13 +19,14 @@ pub(crate) struct Server {
     pub(crate) number: u32,
 }
 
-/// Which rows are compared with those that serve: each one at first, and one in some while hardly any is served.
+/// Which rows are compared with the serving rows: every row at first, and one in `STRIDE` after `MANY` compared rows of which fewer than
+/// `ENOUGH` were served.
 #[derive(Clone, Copy, Debug)]
 struct Pace {
     is_slow: bool,
-    // How many rows were left out since one was compared.
+    // How many rows were left out since the last compared one.
     left_out: u32,
-    // How many rows were compared, and how many of them served, since the counts began anew.
+    // How many rows were compared, and how many of them were served, since the last reset of these counts.
     compared: u32,
     served: u32,
 }
@@ -62,13 +63,13 @@ impl<'m, M: DpModel> Model for Servers<'m, M> {
         × Each (IsServer (M.meaning (M.numbers s.model.now)) s.depth) s.strongest.list.items };
 }
 
-/// How many rows have to be served for each further one to be compared.
+/// Once this many compared rows were served, every row is compared again.
 const ENOUGH: u32 = 2;
 
-/// Where fewer were served of this many, one in some is compared from then on.
+/// If fewer than `ENOUGH` of this many compared rows were served, only one row in `STRIDE` is compared.
 const MANY: u32 = 128;
 
-/// One in this many.
+/// While few rows are served, one row in this many is compared.
 const STRIDE: u32 = 4;
 
 impl Pace {

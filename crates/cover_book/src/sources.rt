@@ -1,4 +1,4 @@
-//! What leaves rows to a cover: compiled diagrams, and the pages of books.
+//! What supplies a cover with rows: compiled diagrams, and the pages of books.
 
 ghost use Rattle.std.specs.Prelude.{◌≡◌, ◌^◌, ◌<◌, ◌≤◌, true, IsSome};
 ghost use Rattle.dp_laws.specs.Diagrams.Nodes.{node_at};
@@ -37,7 +37,7 @@ pub(crate) struct Wait {
     pub(crate) ticket: Option<u64>,
 }
 
-/// A diagram that leaves rows. Layers stand by depth, and the nodes of a layer by their places; the first layer has one node.
+/// A diagram that supplies rows. Layers stand by depth, and the nodes of a layer by their places; the first layer has one node.
 pub(crate) trait RowSource {
     /// The depth of the first layer.
     fn first_depth(&self) -> usize;

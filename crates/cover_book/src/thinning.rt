@@ -1,4 +1,4 @@
-//! Exploration that thins: of the rows that a layer needs, one that a kept row serves goes, and gets no diagram.
+//! Thin exploration: a needed row that a kept row serves is dropped, and gets no diagram.
 //!
 //! Nothing here says that the cover passes its tests: whoever takes it tests it.
 
@@ -10,7 +10,7 @@ ghost use Rattle.bound_cover.specs.Clamping.{AreWritable};
 use crate::aim::Aim;
 use crate::claims::rest_of;
 use crate::gathering::{Gathered, Waiter, bound_at, gather, last_count, mark, push_row, renumber};
-use crate::pages::{Page, Pages};
+use crate::pages::{Page, Pages, ROOT_TICKET};
 use crate::serving::{Servers, is_served, rank_of};
 use crate::sources::{RowSource, Wait};
 use crate::whole::space_for;
@@ -22,8 +22,8 @@ use relaxed_dd::relaxed;
 use std::alloc::Global;
 use std::mem;
 
-/// How many kept rows of a layer serve others.
-const MOST_SERVERS: usize = 32;
+/// The greatest number of serving rows among the kept rows of a layer.
+const MOST_KEPT_SERVERS: usize = 32;
 
 /// What supplies diagrams: the pages of books, and a workspace for those that no page has.
 #[derive(Drop)]
@@ -53,7 +53,7 @@ fn start_layer<M: DpModel>(aim: &Aim<M>, top: &mut Gathered<M>) -> Result<(), Ou
     push_row(bound, words.as_slice(), None, &mut top.rows)?;
     let root = Wait {
         decisions: Vec::new(aim.alloc),
-        ticket: Some(0),
+        ticket: Some(ROOT_TICKET),
     };
     top.wait(0, root)
 }
@@ -398,7 +398,7 @@ fn thin_layer<'m, M: DpModel>(
     let mut numbers = vec![in alloc; 0u32; layer.count() as usize]?;
     let mut kept = Kept {
         rows: Cover::new(alloc),
-        servers: Servers::new(alloc, aim.model, k, MOST_SERVERS),
+        servers: Servers::new(alloc, aim.model, k, MOST_KEPT_SERVERS),
         by_page: vec![in alloc; None; supply.pages.len()]?,
     };
     'needed: for i in 0..needed.len() {
@@ -535,7 +535,7 @@ fn first_layer<'m, M: DpModel>(
     Ok(first.rows)
 }
 
-/// The cover of an exploration of the whole problem in which rows go that others serve. Its bounds can be written; it is not tested.
+/// The cover of a thin exploration of the whole problem. Its bounds can be written; it is not tested.
 pub(crate) fn explore_thin<M: DpModel>(
     alloc: Global,
     model: &M,

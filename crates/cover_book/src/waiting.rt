@@ -74,7 +74,7 @@ pub(crate) fn prefix_at(waiting: &[WaitingRow], next: usize) -> &Sub
     &waiting[next].sub
 }
 
-/// Puts the rows of those nodes of a layer after the others that lead above the claim. The layer's first row has the number
+/// Adds the nodes of a layer that lead above the claim to the waiting rows, after those that are there. The first row has the number
 /// `start`.
 pub(crate) fn add_waiting<M: DpModel, D: ShownDiagram>(
     alloc: Global,
