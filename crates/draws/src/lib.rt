@@ -16,6 +16,7 @@ ghost use Rattle.draws.specs.Draws.{next, drawn};
 use std::marker::Model;
 
 const MULTIPLIER: u64 = 1_103_515_245;
+
 const INCREMENT: u64 = 12_345;
 
 /// States are below this.
