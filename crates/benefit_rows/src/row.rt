@@ -84,8 +84,8 @@ pub fn gap_within(from: &[i64], from_rank: i64, to: &[i64], to_rank: i64, most: 
     Some((more + sizes) / 2)
 }
 
-/// The sum of the sizes of the differences where it is at most `most`. The rows are read only until it is known to exceed. It is a call
-/// of its own, so that the test of the ranks stands where gaps are asked for.
+/// The sum of the sizes of the differences where it is at most `most`. The rows are read only until it is known to exceed. It is never
+/// inlined, so that the callers of `gap_within` inline the test of the ranks alone.
 #[inline(never)]
 fn distance_within(from: &[i64], to: &[i64], most: i64) -> Option<i64>
     requires lengths { length from.now ≡ length to.now }
@@ -145,8 +145,8 @@ pub fn write_zeros(out: &mut [i64], done: usize)
     }
 }
 
-/// Writes the sums of two rows of the same length, and answers their rank. It needs ranks of at most `2^60`. It is a call of its own,
-/// so that the loop over a layer keeps its numbers at hand.
+/// Writes the sums of two rows of the same length, and answers their rank. It needs ranks of at most `2^60`. It is never inlined,
+/// so that the caller's loop over a layer keeps its numbers in registers.
 #[inline(never)]
 pub fn write_sums(out: &mut [i64], row: &[i64], added: &[i64]) -> i64
     requires cells { length out.old ≡ length row.now }

@@ -15,6 +15,16 @@ ghost use Rattle.draws.specs.Draws.{next, drawn};
 
 use std::marker::Model;
 
+const MULTIPLIER: u64 = 1_103_515_245;
+
+const INCREMENT: u64 = 12_345;
+
+/// States are below this.
+const MODULUS: u64 = 1 << 31;
+
+/// A draw leaves out the lower 16 bits of the state.
+const DROPPED: u32 = 1 << 16;
+
 /// Where drawing stands: a state below 2^31, which is all that the numbers to come depend on.
 #[derive(Debug, Drop)]
 pub struct Draws {
@@ -48,9 +58,9 @@ impl Draws {
         ensures state { self.new ≡ next self.old }
         ensures below { result < 32768 }
     {
-        let state = (u64::from(self.state) * 1_103_515_245 + 12_345) % (1 << 31);
+        let state = (u64::from(self.state) * MULTIPLIER + INCREMENT) % MODULUS;
         self.state = state as u32;
-        self.state / 65_536
+        self.state / DROPPED
     }
 }
 

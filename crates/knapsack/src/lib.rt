@@ -2,20 +2,20 @@
 //! A solution takes a number of copies of each item, with a total weight of at most the capacity. Its value is the total
 //! profit.
 //!
-//! `read` and `print` convert between an instance and its text, `value_of` judges a solution in the problem's own words, and
-//! `Knapsack` is a `DpModel`: layer `k` decides the copies of item `k`, and a state is the capacity that is left. It
-//! stands on `dp_model` and `problem_theory` for the interface, on `tokens` for tokens and their places, and on `draws` for
-//! drawn instances.
+//! `Knapsack` is a `DpModel`: layer `k` decides the copies of item `k`, and a state is the capacity that is left. It is a
+//! `Problem`: `read` and `print` convert between an instance and its text, and `value_of` judges a solution in the problem's
+//! own words. The crate stands on `dp_model` and `problem_theory` for the interfaces, on `tokens` for tokens and their
+//! places, and on `draws` for drawn instances.
 //!
 //! Each call's contract has its promise. `read` answers the instance that the text spells, or the first fault of the text with
 //! its place. `print` gives the canonical text, and `read` gives the same instance for it. `value_of` is not `None` exactly for
-//! the feasible solutions of the dynamic program, and has their value. The dynamic program meets the laws and the chain.
+//! the feasible solutions of the dynamic program, and has their value. The dynamic program meets the laws, and its gaps add up along chains.
 //! `rough` is the greedy fill: whole copies in order of profit per weight, and a part of the first item that does not fit,
 //! rounded down. `read`, `print` and `generate` may fail for want of memory at any time.
 //!
 //! ```
-//! let model = read(alloc, b"3 10\n60 5\n50 4\n70 6\n")?;
-//! let value = value_of(&model, &[0, 1, 1]); // Some(120)
+//! let model = Knapsack::read(alloc, b"3 10\n60 5\n50 4\n70 6\n")?;
+//! let value = Knapsack::value_of(&model, &[0, 1, 1]); // Some(120)
 //! ```
 #![tactic(auto)]
 
@@ -32,9 +32,5 @@ mod reading;
 mod running;
 mod value;
 
-pub use generating::generate;
 pub use instance::Knapsack;
-pub use item::Item;
-pub use printing::print;
 pub use reading::read;
-pub use value::value_of;

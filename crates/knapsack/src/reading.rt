@@ -10,6 +10,16 @@ use crate::item::Item;
 use std::alloc::Global;
 use tokens::{Comment, InstanceError, InstanceFault, ReadModelError, Tokens};
 
+const MOST_ITEMS: u64 = 1_000;
+
+const MOST_COPIES: u64 = 1_000;
+
+const GREATEST_PROFIT: u64 = 1_000_000_000;
+
+const GREATEST_WEIGHT: u64 = 1_000_000_000;
+
+const GREATEST_CAPACITY: u64 = 1 << 40;
+
 /// Reads the number of copies of an item, which is 1 if the line ends here.
 #[tactic(auto, unfolding(crate::specs::Reading::copies_at))]
 fn next_copies(tokens: &mut Tokens) -> Result<u32, ReadModelError>
@@ -19,7 +29,7 @@ fn next_copies(tokens: &mut Tokens) -> Result<u32, ReadModelError>
     if tokens.at_line_end() {
         return Ok(1);
     }
-    let copies = tokens.next_natural(0, 1_000)?;
+    let copies = tokens.next_natural(0, MOST_COPIES)?;
     if !tokens.at_line_end() {
         let place = tokens.place();
         let fault = InstanceFault::Trailing;
@@ -36,8 +46,8 @@ fn next_item(tokens: &mut Tokens, items: &mut Vec<Item>) -> Result<(), ReadModel
     ensures one { OnOk result (length items.new.items ≡ length items.old.items + 1) }
     ensures small { OnOk result (list_all is_small_item items.new.items ≡ true) }
 {
-    let profit = tokens.next_natural(0, 1_000_000_000)? as u32;
-    let weight = tokens.next_natural(0, 1_000_000_000)? as u32;
+    let profit = tokens.next_natural(0, GREATEST_PROFIT)? as u32;
+    let weight = tokens.next_natural(0, GREATEST_WEIGHT)? as u32;
     let copies = next_copies(tokens)?;
     items.push(Item {
         profit,
@@ -75,8 +85,8 @@ pub fn read(alloc: Global, bytes: &[u8]) -> Result<Knapsack, ReadModelError>
     ensures { Reads instance_in result (instance_text bytes.now) }
 {
     let mut tokens = Tokens::new(bytes, Comment::Never);
-    let count = tokens.next_natural(0, 1_000)?;
-    let capacity = tokens.next_natural(0, 1 << 40)?;
+    let count = tokens.next_natural(0, MOST_ITEMS)?;
+    let capacity = tokens.next_natural(0, GREATEST_CAPACITY)?;
     let mut items = Vec::with_capacity(alloc, count as usize)?;
     next_items(count, &mut tokens, &mut items)?;
     tokens.finish()?;

@@ -3,13 +3,15 @@
 //!
 //! `MaxCut` is such an instance, and `PairModel<MaxCut>` is its dynamic program, which meets the laws: layer
 //! `k` puts vertex `k` on a side, and a state has the net benefit of T for each later vertex, as `pair_rows`
-//! keeps it. `read` and `print` are its text, by `tokens`, and `value_of` weighs a cut in the problem's own
-//! words.
+//! keeps it. The `read` and `print` of the model convert between an instance and its text, and its `value_of`
+//! weighs a cut in the problem's own words. The crate stands on `pair_rows`, `pair_problem` and `benefit_rows`,
+//! on `dp_model` and `problem_theory` for the interfaces, on `tokens` for texts, and on `draws` for drawn
+//! instances.
 //!
 //! Promised, each in the contract of its call: the instance that a text spells, or its first fault with
 //! its place; the canonical text, which reads as the instance; the weight across, or none exactly where
 //! the sides are no cut; and that the feasible solutions of the program are the cuts, with their values.
-//! Only want of memory has no stated cause.
+//! A call that takes memory may fail for want of it at any time.
 //!
 //! ```
 //! let model = PairModel::<MaxCut>::read(alloc, b"3 2\n1 2 5\n2 3 -4\n")?;
@@ -28,8 +30,4 @@ mod reading;
 mod sides;
 mod value;
 
-pub use generating::generate;
 pub use instance::MaxCut;
-pub use printing::print;
-pub use reading::read;
-pub use value::value_of;

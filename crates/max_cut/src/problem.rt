@@ -2,7 +2,7 @@ use crate::instance::MaxCut;
 use dp_model::OutOfMemory;
 use pair_problem::PairProblem;
 use pair_rows::PairRows;
-use problem_theory::{ReadInstanceError, of_text};
+use problem_theory::ReadInstanceError;
 use std::alloc::Global;
 
 #[tactic(auto, using(problem_theory::proofs::Readings::reads_numbers, problem_theory::proofs::Readings::drawn_numbers, problem_theory::proofs::Readings::spelled_numbers))]
@@ -30,18 +30,18 @@ impl PairProblem for MaxCut {
     }
 
     fn read(alloc: Global, bytes: &[u8]) -> Result<MaxCut, ReadInstanceError> {
-        of_text(crate::read(alloc, bytes))
+        Ok(crate::reading::read(alloc, bytes)?)
     }
 
     fn print(alloc: Global, problem: &MaxCut) -> Result<Vec<u8>, OutOfMemory> {
-        crate::print(alloc, problem)
+        crate::printing::print(alloc, problem)
     }
 
     fn value_of(problem: &MaxCut, decisions: &[u32]) -> Option<i64> {
-        crate::value_of(problem, decisions)
+        crate::value::value_of(problem, decisions)
     }
 
     fn generate(alloc: Global, n: u32, seed: u32) -> Result<MaxCut, OutOfMemory> {
-        crate::generate(alloc, n, seed)
+        crate::generating::generate(alloc, n, seed)
     }
 }

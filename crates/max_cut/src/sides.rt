@@ -1,16 +1,17 @@
 //! The sides of vertices, and the weight between them.
 
-ghost use Rattle.std.specs.Prelude.{◌≡◌, ◌^◌, ◌≤◌, ◌≤ℤ◌, ◌==◌, if◌then◌else◌, [], drop, length, nat_lt, pos};
-ghost use Rattle.std.specs.List.{list_all};
+ghost use Rattle.std.specs.Prelude.{◌≡◌, ◌^◌, ◌≤◌, ◌≤ℤ◌, ◌==◌, if◌then◌else◌, [], drop, length, pos};
 ghost use Rattle.benefit_rows.specs.Benefits.{rank_of};
 ghost use Rattle.max_cut.specs.Cuts.{across_from, begins_on_S, is_cut, weight_across};
 ghost use Rattle.pair_rows.specs.Pairs.{pair_count};
+
+use pair_problem::are_binary;
 
 /// Whether there is a side for each vertex, with vertex 0 on S.
 pub(crate) fn are_sides(vertices: usize, sides: &[u32]) -> bool
     ensures { result ≡ is_cut (record { vertices = vertices; weights = [] }) sides.now }
 {
-    sides.len() == vertices && begin_on_first(sides) && are_two(sides)
+    sides.len() == vertices && begin_on_first(sides) && are_binary(sides)
 }
 
 /// Whether vertex 0, where there is one, is on S.
@@ -21,13 +22,6 @@ fn begin_on_first(sides: &[u32]) -> bool
         [] => true,
         [first, ..] => *first == 0,
     }
-}
-
-/// Whether each side is S or T.
-fn are_two(sides: &[u32]) -> bool
-    ensures { result ≡ list_all (λ d. nat_lt d 2) sides.now }
-{
-    sides.iter().all(|side| *side < 2)
 }
 
 /// The weight of the pairs on different sides.

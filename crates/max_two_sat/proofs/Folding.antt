@@ -10,7 +10,8 @@ use Rattle.max_two_sat.specs.declared.clause.Literals.{Literals}
 use Rattle.max_two_sat.specs.declared.clause.Literals.TheVariants.{One, Two}
 use Rattle.max_two_sat.specs.declared.weights.UnitWeights.{UnitWeights}
 use Rattle.max_two_sat.specs.declared.weights.PairWeights.{PairWeights}
-use Rattle.max_two_sat.specs.Clauses.{empty_instance, heavier_unit, heavier_pair, place_of_pair, with_clause}
+use Rattle.pair_problem.specs.Adding.{place_of}
+use Rattle.max_two_sat.specs.Clauses.{empty_instance, heavier_unit, heavier_pair, with_clause}
 use Rattle.max_two_sat.specs.Instance.{Instance, no_pair, no_unit}
 use Rattle.pair_rows.specs.Pairs.{rows_of, pair_count, entries_before}
 use Rattle.max_two_sat.specs.Limits.{IsWithinLimits, PairIsPositive, UnitIsPositive, pairs_are_positive, units_are_positive, pair_is_positive, unit_is_positive}
@@ -97,7 +98,7 @@ heavier_pair-none p true false = ap (λ z. let q : PairWeights = record { both =
 heavier_pair-none p false true = ap (λ z. let q : PairWeights = record { both = p.both; first = p.first; second = z; neither = p.neither } in q) (plus-zero p.second)
 heavier_pair-none p false false = ap (λ z. let q : PairWeights = record { both = p.both; first = p.first; second = p.second; neither = z } in q) (plus-zero p.neither)
 
-pair-added : (t : ℤ) (us : List UnitWeights) (done more : List PairWeights) (p : PairWeights) (i j : ℕ) (s r : Bool) (w : ℤ) → pos 0 ≤ℤ w → i < j → place_of_pair (length us) i j ≡ length done →
+pair-added : (t : ℤ) (us : List UnitWeights) (done more : List PairWeights) (p : PairWeights) (i j : ℕ) (s r : Bool) (w : ℤ) → pos 0 ≤ℤ w → i < j → place_of (length us) i j ≡ length done →
     fold add_to (instance_with t us (done ++ p ∷ more)) (clause_where w (Two (literal i s) (literal j r))) ≡ instance_with t us (done ++ heavier_pair p s r w ∷ more)
 pair-added t us done more p i j s r w low less place =
     line-added (instance_with t us (done ++ p ∷ more)) w (Two (literal i s) (literal j r)) (instance_with t us (done ++ heavier_pair p s r w ∷ more)) low
@@ -119,7 +120,7 @@ four-added : (i : Instance) (a b d e : List Clause) → fold add_to i (a ++ (b +
 four-added i a b d e =
     fold-append add_to i a (b ++ (d ++ e)) ∙ (fold-append add_to (fold add_to i a) b (d ++ e) ∙ fold-append add_to (fold add_to (fold add_to i a) b) d e)
 
-pair-lines-added : (t : ℤ) (us : List UnitWeights) (done more : List PairWeights) (p : PairWeights) (i j : ℕ) → PairIsPositive p → i < j → place_of_pair (length us) i j ≡ length done →
+pair-lines-added : (t : ℤ) (us : List UnitWeights) (done more : List PairWeights) (p : PairWeights) (i j : ℕ) → PairIsPositive p → i < j → place_of (length us) i j ≡ length done →
     fold add_to (instance_with t us (done ++ no_pair ∷ more)) (pair_lines i j p) ≡ instance_with t us (done ++ p ∷ more)
 pair-lines-added t us done more p i j here less place =
     let a : List Clause = clause_where p.both (Two (literal i true) (literal j true)) in
@@ -135,12 +136,12 @@ pair-lines-added t us done more p i j here less place =
     (ap (λ x. fold add_to x e) (pair-added t us done more two i j false true p.second here.second less place) ∙
     (pair-added t us done more three i j false false p.neither here.neither less place ∙ ap (λ q. instance_with t us (done ++ q ∷ more)) (pair-made p)))))
 
-row-added : (ps : List PairWeights) (t : ℤ) (us : List UnitWeights) (done more : List PairWeights) (i j : ℕ) → IsTrue (pairs_are_positive ps) → i < j → place_of_pair (length us) i j ≡ length done →
+row-added : (ps : List PairWeights) (t : ℤ) (us : List UnitWeights) (done more : List PairWeights) (i j : ℕ) → IsTrue (pairs_are_positive ps) → i < j → place_of (length us) i j ≡ length done →
     fold add_to (instance_with t us (done ++ (replicate (length ps) no_pair ++ more))) (row_lines i j ps) ≡ instance_with t us (done ++ (ps ++ more))
 row-added [] t us done more i j h less place = refl
 row-added (p ∷ ps) t us done more i j h less place =
     let rest : List PairWeights = replicate (length ps) no_pair ++ more in
-    let next : place_of_pair (length us) i (j + 1) ≡ length (done ++ p ∷ []) = omega (arith, length-append done (p ∷ [])) in
+    let next : place_of (length us) i (j + 1) ≡ length (done ++ p ∷ []) = omega (arith, length-append done (p ∷ [])) in
     let turned : instance_with t us (done ++ p ∷ rest) ≡ instance_with t us ((done ++ p ∷ []) ++ rest) = ap (λ xs. instance_with t us xs) (sym (append_assoc done (p ∷ []) rest)) in
     fold-append add_to (instance_with t us (done ++ no_pair ∷ rest)) (pair_lines i j p) (row_lines i (j + 1) ps) ∙
     (ap (λ x. fold add_to x (row_lines i (j + 1) ps)) (pair-lines-added t us done rest p i j (pair-positive p (and_parts _ _ h).0) less place ∙ turned) ∙
@@ -158,7 +159,7 @@ rows-added (suc m) ps t us done i h whole ends place =
     let left = length-drop m ps in
     let parts : replicate (length ps) no_pair ≡ replicate (length row) no_pair ++ replicate (length below) no_pair =
     ap (λ m. replicate m no_pair) (let e : length ps ≡ length row + length below = omega arith in e) ∙ sym (replicate-append-replicate (length row) (length below) no_pair) in
-    let first : place_of_pair (length us) i (i + 1) ≡ length done = omega arith in
+    let first : place_of (length us) i (i + 1) ≡ length done = omega arith in
     let next : entries_before (length us) (i + 1) ≡ length (done ++ row) =
     ap (entries_before (length us)) (let e : i + 1 ≡ suc i = omega arith in e) ∙ (let e : entries_before (length us) (suc i) ≡ length (done ++ row) = omega (arith, entries_before-more (length us) i (omega arith), length-append done row) in e) in
     ap (λ xs. fold add_to (instance_with t us (done ++ xs)) (row_lines i (i + 1) row ++ rows_lines (i + 1) (rows_of m below))) parts ∙

@@ -17,7 +17,8 @@ use Rattle.max_two_sat.specs.declared.header.Form.{Form}
 use Rattle.max_two_sat.specs.declared.header.Form.TheVariants.{Plain, Weighted}
 use Rattle.max_two_sat.specs.declared.weights.UnitWeights.{UnitWeights}
 use Rattle.max_two_sat.specs.declared.weights.PairWeights.{PairWeights}
-use Rattle.max_two_sat.specs.Clauses.{FitsLiteral, FitsLiterals, Gathered, gathered_with, nothing_gathered, heavier_unit, heavier_pair, place_of_pair, same_sign, with_clause, with_two, with_pair, with_tautology, with_unit}
+use Rattle.pair_problem.specs.Adding.{place_of}
+use Rattle.max_two_sat.specs.Clauses.{FitsLiteral, FitsLiterals, Gathered, gathered_with, nothing_gathered, heavier_unit, heavier_pair, same_sign, with_clause, with_two, with_pair, with_tautology, with_unit}
 use Rattle.max_two_sat.specs.Instance.{Instance, unit_total, pair_total, units_total, pairs_total, no_pair, no_unit}
 use Rattle.pair_rows.specs.Pairs.{pair_count, total_by}
 use Rattle.max_two_sat.specs.Limits.{PairIsPositive, UnitIsPositive, pairs_are_positive, units_are_positive, pair_is_positive, unit_is_positive}
@@ -28,7 +29,7 @@ use Rattle.max_two_sat.specs.Laws.Totals.{units_total-positive, pairs_total-posi
 use Rattle.max_two_sat.proofs.Entries.{pair-at, unit-at}
 
 -- the place of a pair
-pub place-inside : (n i j : ℕ) → i < j → j < n → place_of_pair n i j < pair_count n
+pub place-inside : (n i j : ℕ) → i < j → j < n → place_of n i j < pair_count n
 place-inside n i j h g = omega (arith, entries_before-more n i (omega arith), entries_before-most n (suc i))
 
 -- what is known of a clause for which there is room
@@ -144,7 +145,7 @@ keeps-unit i w a room some fits =
 
 keeps-pair : (i : Instance) (w : ℤ) (a b : Literal) → HasClauseRoom i w → weighs i.tautologies ≤ length i.units → a.variable < b.variable → FitsLiteral (length i.units) b → Keeps i (with_pair i w a b) w
 keeps-pair i w a b room some less fits =
-    let place : ℕ = place_of_pair (length i.units) a.variable b.variable in
+    let place : ℕ = place_of (length i.units) a.variable b.variable in
     let inside : place < length i.pairs = omega (arith, place-inside (length i.units) a.variable b.variable less fits, room.whole) in
     let old : PairWeights = get_or i.pairs place no_pair in
     let there = pair-at i.pairs place no_pair inside room.pairs in

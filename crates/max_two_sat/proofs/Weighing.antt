@@ -8,6 +8,7 @@ use Rattle.std.proofs.lemmas.Int.{ints}
 use Rattle.std.proofs.lemmas.List.{drop_more, drop_all, length-map}
 use Rattle.dp_model.specs.Prefixes.{IsSolution}
 use Rattle.dp_model.specs.Solution.{IsSolutionWith, SolutionGives}
+use Rattle.pair_rows.specs.OwnWords.{are_binary}
 use Rattle.pair_rows.specs.Pairs.{rows_of, row_at, pair_count, entries_before}
 use Rattle.pair_rows.specs.Laws.Pairs.{length-rows_of, length-row_at, row_at-is, drop-rows, all-take, all-drop, all-rows_of, all-row_at, total_by-cut, rows_of-map}
 use Rattle.pair_rows.specs.Laws.Gaps as plain
@@ -21,27 +22,10 @@ use Rattle.max_two_sat.specs.Laws.Limits.{unit-positive, pair-positive}
 use Rattle.max_two_sat.specs.Laws.Listing.{pairs-in_range, pairs-most, row-same, rows-same}
 use Rattle.max_two_sat.specs.Laws.Solutions.{own_value-agrees}
 use Rattle.max_two_sat.specs.Laws.Totals.{units_total-positive, pairs_total-positive}
-use Rattle.max_two_sat.specs.OwnWords.{all_truth_values, own_value, weight_of, unit_value, pair_value, pair_left, units_value, row_value, rows_value}
+use Rattle.max_two_sat.specs.OwnWords.{own_value, weight_of, unit_value, pair_value, pair_left, units_value, row_value, rows_value}
 use Rattle.pair_rows.specs.Program.{program_of}
 use Rattle.max_two_sat.specs.Program.{pair_values, rows_in}
 use Rattle.max_two_sat.proofs.Entries.{unit-at, pair-at}
-
--- truth values
-
-pub truth-more : (xs : List ℕ) (i : ℕ) → i < length xs → get_or xs i 0 < 2 → all_truth_values (drop i xs) ≡ all_truth_values xs → all_truth_values (drop (i + 1) xs) ≡ all_truth_values xs
-truth-more xs i h small before =
-    let here : nat_lt (get_or xs i 0) 2 ≡ true = grind (arith, nat_tests) in
-    let cut : all_truth_values (drop i xs) ≡ all_truth_values (drop (i + 1) xs) = rw (drop_more xs i 0 h, here) refl in
-    sym cut ∙ before
-
-pub truth-not : (xs : List ℕ) (i : ℕ) → i < length xs → 2 ≤ get_or xs i 0 → all_truth_values (drop i xs) ≡ all_truth_values xs → false ≡ all_truth_values xs
-truth-not xs i h large before =
-    let here : nat_lt (get_or xs i 0) 2 ≡ false = grind (arith, nat_tests) in
-    let cut : all_truth_values (drop i xs) ≡ false = rw (drop_more xs i 0 h, here) refl in
-    sym cut ∙ before
-
-pub truth-done : (xs : List ℕ) (i : ℕ) → length xs ≤ i → all_truth_values (drop i xs) ≡ all_truth_values xs → true ≡ all_truth_values xs
-truth-done xs i h before = ap all_truth_values (sym (drop_all i xs h)) ∙ before
 
 -- one variable
 
@@ -212,18 +196,18 @@ rows-bounds ps n xs whole positive =
 
 -- what value_of answers
 
-pub value-none : (i : Instance) (xs : List ℕ) (answer : Bool) → IsWithinLimits i → answer ≡ ((length xs == length i.units) && all_truth_values xs) → answer ≡ false → ¬ IsSolution (program_of (rows_in i)) xs
+pub value-none : (i : Instance) (xs : List ℕ) (answer : Bool) → IsWithinLimits i → answer ≡ ((length xs == length i.units) && are_binary xs) → answer ≡ false → ¬ IsSolution (program_of (rows_in i)) xs
 value-none i xs answer kept is no_assignment =
-    let test : ((length xs == length i.units) && all_truth_values xs) ≡ false = sym is ∙ no_assignment in
+    let test : ((length xs == length i.units) && are_binary xs) ≡ false = sym is ∙ no_assignment in
     subst (λ (b : Bool). SolutionGives (program_of (rows_in i)) xs (if b then Some (weight_of i xs) else None)) test (own_value-agrees i xs kept)
 
-pub own-none : (i : Instance) (xs : List ℕ) (answer : Bool) → answer ≡ ((length xs == length i.units) && all_truth_values xs) → answer ≡ false → None ≡ own_value i xs
+pub own-none : (i : Instance) (xs : List ℕ) (answer : Bool) → answer ≡ ((length xs == length i.units) && are_binary xs) → answer ≡ false → None ≡ own_value i xs
 own-none i xs answer is no_assignment =
-    let test : ((length xs == length i.units) && all_truth_values xs) ≡ false = sym is ∙ no_assignment in
+    let test : ((length xs == length i.units) && are_binary xs) ≡ false = sym is ∙ no_assignment in
     subst (λ (b : Bool). None ≡ (if b then Some (weight_of i xs) else None)) (sym test) refl
 
 -- an assignment has a value for each variable
-pub assigned : (i : Instance) (xs : List ℕ) (answer : Bool) → answer ≡ ((length xs == length i.units) && all_truth_values xs) → answer ≡ true → length xs ≡ length i.units
+pub assigned : (i : Instance) (xs : List ℕ) (answer : Bool) → answer ≡ ((length xs == length i.units) && are_binary xs) → answer ≡ true → length xs ≡ length i.units
 assigned i xs answer is yes_assignment = eqb-true (length xs) (length i.units) (and_parts _ _ (sym is ∙ yes_assignment)).0
 
 pub record ValueIs (i : Instance) (xs : List ℕ) (units_part pairs_part : ℤ) : Type 0 where
@@ -233,10 +217,10 @@ pub record ValueIs (i : Instance) (xs : List ℕ) (units_part pairs_part : ℤ) 
   pub sum_fits : FitsSigned w64 (to_z w64 (of_z w64 i.tautologies) +ℤ to_z w64 (of_z w64 (to_z w64 (of_z w64 units_part) +ℤ to_z w64 (of_z w64 pairs_part))))
   pub read : to_z w64 (of_z w64 (to_z w64 (of_z w64 i.tautologies) +ℤ to_z w64 (of_z w64 (to_z w64 (of_z w64 units_part) +ℤ to_z w64 (of_z w64 pairs_part))))) ≡ i.tautologies +ℤ (units_part +ℤ pairs_part)
 
-pub value-is : (i : Instance) (xs : List ℕ) (answer : Bool) (units_part pairs_part : ℤ) → IsWithinLimits i → answer ≡ ((length xs == length i.units) && all_truth_values xs) → answer ≡ true →
+pub value-is : (i : Instance) (xs : List ℕ) (answer : Bool) (units_part pairs_part : ℤ) → IsWithinLimits i → answer ≡ ((length xs == length i.units) && are_binary xs) → answer ≡ true →
     units_part ≡ units_value i.units xs → pairs_part ≡ rows_value (rows_of (length xs) i.pairs) xs → ValueIs i xs units_part pairs_part
 value-is i xs answer units_part pairs_part kept is yes_assignment units_is pairs_is =
-    let test : ((length xs == length i.units) && all_truth_values xs) ≡ true = sym is ∙ yes_assignment in
+    let test : ((length xs == length i.units) && are_binary xs) ≡ true = sym is ∙ yes_assignment in
     let whole : length xs ≡ length i.units = assigned i xs answer is yes_assignment in
     let pairs : pairs_part ≡ rows_value (rows_of (length i.units) i.pairs) xs = pairs_is ∙ ap (λ n. rows_value (rows_of n i.pairs) xs) whole in
     let sum : i.tautologies +ℤ (units_part +ℤ pairs_part) ≡ weight_of i xs = omega (arith, ints) in

@@ -6,7 +6,8 @@ use Rattle.max_two_sat.specs.declared.clause.Literals.TheVariants.{Empty, One, T
 use Rattle.max_two_sat.specs.declared.weights.UnitWeights.{UnitWeights}
 use Rattle.max_two_sat.specs.declared.weights.PairWeights.{PairWeights}
 use Rattle.max_two_sat.specs.Instance.{Instance, no_pair, no_unit}
-use Rattle.pair_rows.specs.Pairs.{pair_count, entries_before}
+use Rattle.pair_rows.specs.Pairs.{pair_count}
+use Rattle.pair_problem.specs.Adding.{place_of}
 
 -- an instance of this many variables without clauses
 abbrev pub empty_instance : ℕ → Instance
@@ -23,10 +24,6 @@ heavier_pair p true false weight = record { both = p.both; first = p.first +ℤ 
 heavier_pair p false true weight = record { both = p.both; first = p.first; second = p.second +ℤ weight; neither = p.neither }
 heavier_pair p false false weight = record { both = p.both; first = p.first; second = p.second; neither = p.neither +ℤ weight }
 
--- where the entry of variables i < j stands
-abbrev pub place_of_pair : ℕ → ℕ → ℕ → ℕ
-place_of_pair n i j = entries_before n i + (j - i - 1)
-
 abbrev pub with_tautology : Instance → ℤ → Instance
 with_tautology i weight = record { tautologies = i.tautologies +ℤ weight; units = i.units; pairs = i.pairs }
 
@@ -40,7 +37,7 @@ with_unit i weight a =
 
 abbrev pub with_pair : Instance → ℤ → Literal → Literal → Instance
 with_pair i weight a b =
-    let place = place_of_pair (length i.units) a.variable b.variable in
+    let place = place_of (length i.units) a.variable b.variable in
     record {
       tautologies = i.tautologies;
       units = i.units;

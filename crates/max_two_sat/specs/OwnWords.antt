@@ -1,8 +1,9 @@
 -- The problem's own words: a truth value for each variable, and the weight of the clauses that it satisfies.
-use Rattle.std.specs.Prelude.{ℕ, zero, suc, ℤ, pos, ◌+ℤ◌, Bool, true, false, ◌&&◌, ◌||◌, not, nat_lt, ◌==◌, List, [], ◌∷◌, length, Option, Some, None, if◌then◌else◌}
+use Rattle.std.specs.Prelude.{ℕ, zero, suc, ℤ, pos, ◌+ℤ◌, Bool, true, false, ◌&&◌, ◌||◌, not, ◌==◌, List, [], ◌∷◌, length, Option, Some, None, if◌then◌else◌}
 use Rattle.max_two_sat.specs.declared.weights.UnitWeights.{UnitWeights}
 use Rattle.max_two_sat.specs.declared.weights.PairWeights.{PairWeights}
 use Rattle.max_two_sat.specs.Instance.{Instance}
+use Rattle.pair_rows.specs.OwnWords.{are_binary}
 use Rattle.pair_rows.specs.Pairs.{rows_of}
 
 -- whether the value makes the variable true: 1 does, 0 does not
@@ -51,11 +52,6 @@ rows_value (row ∷ rows) (x ∷ xs) = row_value row x xs +ℤ rows_value rows x
 abbrev pub weight_of : Instance → List ℕ → ℤ
 weight_of i xs = i.tautologies +ℤ (units_value i.units xs +ℤ rows_value (rows_of (length i.units) i.pairs) xs)
 
--- whether each value is 0 or 1
-abbrev pub all_truth_values : List ℕ → Bool
-all_truth_values [] = true
-all_truth_values (x ∷ xs) = nat_lt x 2 && all_truth_values xs
-
 -- the value of a solution, and none for a list that is no truth value for each variable
 abbrev pub own_value : Instance → List ℕ → Option ℤ
-own_value i xs = if (length xs == length i.units) && all_truth_values xs then Some (weight_of i xs) else None
+own_value i xs = if (length xs == length i.units) && are_binary xs then Some (weight_of i xs) else None

@@ -105,7 +105,7 @@ impl Draft {
 fn has_same_sign(a: Literal, b: Literal) -> bool
     ensures { result ≡ same_sign a.positive b.positive }
 {
-    if a.positive { b.positive } else { !b.positive }
+    a.positive == b.positive
 }
 
 /// The unit weights with a weight added at a sign.

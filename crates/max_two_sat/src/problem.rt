@@ -2,7 +2,7 @@ use crate::instance::MaxTwoSat;
 use dp_model::OutOfMemory;
 use pair_problem::PairProblem;
 use pair_rows::PairRows;
-use problem_theory::{ReadInstanceError, of_text};
+use problem_theory::ReadInstanceError;
 use std::alloc::Global;
 
 #[tactic(auto, using(problem_theory::proofs::Readings::reads_numbers, problem_theory::proofs::Readings::drawn_numbers, problem_theory::proofs::Readings::spelled_numbers, crate::specs::Laws::Numbers::reads_numbers))]
@@ -30,18 +30,18 @@ impl PairProblem for MaxTwoSat {
     }
 
     fn read(alloc: Global, bytes: &[u8]) -> Result<MaxTwoSat, ReadInstanceError> {
-        of_text(crate::read(alloc, bytes))
+        Ok(crate::reading::read(alloc, bytes)?)
     }
 
     fn print(alloc: Global, problem: &MaxTwoSat) -> Result<Vec<u8>, OutOfMemory> {
-        crate::print(alloc, problem)
+        crate::printing::print(alloc, problem)
     }
 
     fn value_of(problem: &MaxTwoSat, decisions: &[u32]) -> Option<i64> {
-        crate::value_of(problem, decisions)
+        crate::value::value_of(problem, decisions)
     }
 
     fn generate(alloc: Global, n: u32, seed: u32) -> Result<MaxTwoSat, OutOfMemory> {
-        crate::generate(alloc, n, seed)
+        crate::generating::generate(alloc, n, seed)
     }
 }

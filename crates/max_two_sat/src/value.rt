@@ -1,17 +1,19 @@
 //! The problem's own words: a truth value for each variable, and the weight of the clauses that it satisfies.
 
 ghost use Rattle.std.specs.Prelude.{◌≡◌, ◌^◌, ◌≤◌, ◌==◌, ◌&&◌, pos, ◌≤ℤ◌, length, IsTrue};
+ghost use Rattle.pair_rows.specs.OwnWords.{are_binary};
 ghost use Rattle.pair_rows.specs.Pairs.{pair_count, rows_of};
 ghost use Rattle.max_two_sat.specs.Instance.{pair_total, pairs_total, units_total};
 ghost use Rattle.max_two_sat.specs.Limits.{PairIsPositive, pairs_are_positive, units_are_positive};
 ghost use Rattle.max_two_sat.specs.Shown.{instance_in};
-ghost use Rattle.max_two_sat.specs.OwnWords.{all_truth_values, own_value, pair_left, pair_value, row_value, rows_value, unit_value, units_value};
+ghost use Rattle.max_two_sat.specs.OwnWords.{own_value, pair_left, pair_value, row_value, rows_value, unit_value, units_value};
 ghost use Rattle.dp_model.specs.Solution.{SolutionGives};
 ghost use Rattle.pair_rows.specs.Program.{program_of};
 ghost use Rattle.max_two_sat.specs.Program.{rows_in};
 
 use crate::instance::MaxTwoSat;
 use crate::weights::{PairWeights, UnitWeights};
+use pair_problem::are_binary;
 use pair_rows::row_of;
 
 /// The weight of the satisfied clauses, where the decisions give each variable 0 (false) or 1 (true). `None` exactly where they do
@@ -31,20 +33,9 @@ pub fn value_of(model: &MaxTwoSat, decisions: &[u32]) -> Option<i64>
 
 /// Whether there is a truth value for each variable.
 fn is_assignment(variables: usize, values: &[u32]) -> bool
-    ensures { result ≡ ((length values.now == variables) && all_truth_values values.now) }
+    ensures { result ≡ ((length values.now == variables) && are_binary values.now) }
 {
-    values.len() == variables && are_truth_values(values)
-}
-
-fn are_truth_values(values: &[u32]) -> bool
-    ensures { result ≡ all_truth_values values.now }
-{
-    for value in values {
-        if *value >= 2 {
-            return false;
-        }
-    }
-    true
+    values.len() == variables && are_binary(values)
 }
 
 /// The satisfied weight of the clauses with one literal.

@@ -79,7 +79,7 @@ union_not one two wide more i a b c d p q r s ea eb ec ed n h =
     (λ z. n (ap₂ (λ x y. bit_and x (bit_not w32 y)) (ap₂ bit_or ea eb) (ap₂ bit_or ec ed) ∙ z))
     (λ v. outside (has one v || has two v) (has wide v || has more v) (h v))
 
--- next_member and next_of_either: what words tell of the numbers whose bits they hold
+-- next_of_either: what words tell of the numbers whose bits they hold
 
 module _ (test : ℕ → Bool) (words : ℕ → ℕ) (bits : (v : ℕ) → test v ≡ on (words (v / 32)) (v % 32)) where
   bit_at_place : (i j : ℕ) → j < 32 → test (32 * i + j) ≡ on (words i) j

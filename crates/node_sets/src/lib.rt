@@ -23,7 +23,7 @@ pub use combine::{join, union_with};
 pub use iter::{Members, first_word};
 pub use member::{clear, contains, insert, remove};
 pub use test::{
-    count, is_disjoint, is_empty, is_set, is_subset, is_union_subset, least, next_member,
-    next_of_either, rows_are_sets, words_for,
+    count, is_disjoint, is_empty, is_set, is_subset, is_union_subset, least, next_of_either,
+    words_for,
 };
 pub use write::{write_below, write_one, write_others, write_split};

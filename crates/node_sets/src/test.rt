@@ -1,11 +1,12 @@
 //! What can be asked of sets.
 
-ghost use Rattle.std.specs.Prelude.{◌≡◌, ℕ, ℤ, List, ◌+◌, ◌*◌, ◌/◌, ◌^◌, ◌<◌, ◌≤◌, ◌↔◌, ◌&&◌, ◌||◌, not, true, false, length, IsTrue, IfSome, IfNone};
+ghost use Rattle.std.specs.Prelude.{◌≡◌, ℕ, ◌+◌, ◌*◌, ◌/◌, ◌^◌, ◌<◌, ◌≤◌, ◌↔◌, ◌&&◌, ◌||◌, not, true, false, length, IsTrue, IfSome, IfNone};
 ghost use Rattle.node_sets.specs.Pairs.{made};
 ghost use Rattle.node_sets.specs.Sums.{count_below};
 ghost use Rattle.node_sets.specs.Sets as sets;
 ghost use Rattle.node_sets.specs.Sets.{AreWords, IsLeastFrom, has};
 
+use crate::iter::Members;
 use crate::pairing::Pairing;
 use crate::word::word;
 
@@ -138,30 +139,6 @@ pub fn count(row: &[i64]) -> usize
     total
 }
 
-/// The least member that is at or above `from`, or none where there is none.
-pub fn next_member(row: &[i64], from: usize) -> Option<usize>
-    requires cells { AreWords row.now }
-    requires short { length row.now < 2 ^ 32 }
-    ensures some { IfSome result (λ v. v < 32 * length row.now) }
-    ensures next { IfSome result (IsLeastFrom (has row.now) from) }
-    ensures none { IfNone result ((v : ℕ) → from ≤ v → has row.now v ≡ false) }
-{
-    if from / 32 >= row.len() {
-        return None;
-    }
-    let first = word(row, from / 32) >> (from % 32);
-    if first != 0 {
-        return Some(from + first.trailing_zeros() as usize);
-    }
-    for i in from / 32 + 1..row.len() {
-        let bits = word(row, i);
-        if bits != 0 {
-            return Some(32 * i + bits.trailing_zeros() as usize);
-        }
-    }
-    None
-}
-
 /// The least number at or above `from` that is a member of one of the two sets, or none where there is none.
 #[inline]
 pub fn next_of_either(one: &[i64], two: &[i64], from: usize) -> Option<usize>
@@ -197,11 +174,5 @@ pub fn least(row: &[i64]) -> Option<usize>
     ensures next { IfSome result (IsLeastFrom (has row.now) 0) }
     ensures none { IfNone result ((v : ℕ) → has row.now v ≡ false) }
 {
-    next_member(row, 0)
+    Members::of(row).next()
 }
-
-/// A row of words is a set of numbers: two rows of one length with the same members are equal.
-pub fn rows_are_sets()
-    ensures { (a b : List ℤ) → AreWords a → AreWords b → length a ≡ length b
-        → ((v : ℕ) → has a v ≡ has b v) → a ≡ b }
-{}

@@ -1,10 +1,10 @@
 /// A job of the machine.
 #[derive(Clone, Copy, Debug, PartialEq, Eq)]
 pub struct Job {
-    /// How long it takes.
+    /// The processing time.
     pub processing: u64,
-    /// What each unit of time costs by which it is late.
+    /// What each unit of its tardiness costs.
     pub weight: u64,
-    /// It is late by the time that passes from here to its completion.
+    /// The due time: a job that is completed later is tardy by the difference.
     pub due: u64,
 }

@@ -13,7 +13,7 @@ use node_sets::Members;
 use pending_rows::{is_row, left, left_after, parts_of, write_done};
 
 /// The longest processing time.
-const LONGEST: u64 = 100_000;
+pub(crate) const LONGEST: u64 = 100_000;
 
 impl OneMachine {
     /// When a job is completed that begins at a time.

@@ -1,6 +1,6 @@
 use crate::OneMachine;
 use dp_model::OutOfMemory;
-use problem_theory::{Problem, ReadInstanceError, of_text};
+use problem_theory::{Problem, ReadInstanceError};
 use std::alloc::Global;
 
 #[tactic(auto, using(problem_theory::proofs::Readings::reads_numbers, problem_theory::proofs::Readings::drawn_numbers, problem_theory::proofs::Readings::spelled_numbers, crate::specs::Laws::Limits::round_trip))]
@@ -16,18 +16,18 @@ impl Problem for OneMachine {
     ghost agrees = { λ m. order_agrees (instance_in m) };
 
     fn read(alloc: Global, bytes: &[u8]) -> Result<OneMachine, ReadInstanceError> {
-        of_text(crate::read(alloc, bytes))
+        Ok(crate::reading::read(alloc, bytes)?)
     }
 
     fn print(alloc: Global, model: &OneMachine) -> Result<Vec<u8>, OutOfMemory> {
-        crate::print(alloc, model)
+        crate::printing::print(alloc, model)
     }
 
     fn value_of(model: &OneMachine, decisions: &[u32]) -> Option<i64> {
-        crate::value_of(model, decisions)
+        crate::value::value_of(model, decisions)
     }
 
     fn generate(alloc: Global, n: u32, seed: u32) -> Result<Option<OneMachine>, OutOfMemory> {
-        Ok(Some(crate::generate(alloc, n, seed)?))
+        Ok(Some(crate::generating::generate(alloc, n, seed)?))
     }
 }

@@ -7,8 +7,15 @@ ghost use Rattle.one_machine.specs.Texts.{job_after, instance_text};
 
 use crate::instance::OneMachine;
 use crate::job::Job;
+use crate::machine::LONGEST;
 use std::alloc::Global;
 use tokens::{Comment, ReadModelError, Tokens};
+
+const MOST_JOBS: u64 = 100;
+
+const GREATEST_WEIGHT: u64 = 100_000;
+
+const LATEST_DUE: u64 = 1_000_000_000;
 
 /// Reads a job after others.
 #[tactic(auto, unfolding(crate::specs::Texts::job_after))]
@@ -18,9 +25,9 @@ fn next_job(tokens: &mut Tokens, jobs: &mut Vec<Job>) -> Result<(), ReadModelErr
     ensures one { OnOk result (length jobs.new.items ≡ length jobs.old.items + 1) }
     ensures small { OnOk result (list_all is_small_job jobs.new.items ≡ true) }
 {
-    let processing = tokens.next_natural(0, 100_000)?;
-    let weight = tokens.next_natural(0, 100_000)?;
-    let due = tokens.next_natural(0, 1_000_000_000)?;
+    let processing = tokens.next_natural(0, LONGEST)?;
+    let weight = tokens.next_natural(0, GREATEST_WEIGHT)?;
+    let due = tokens.next_natural(0, LATEST_DUE)?;
     jobs.push(Job {
         processing,
         weight,
@@ -55,7 +62,7 @@ pub fn read(alloc: Global, bytes: &[u8]) -> Result<OneMachine, ReadModelError>
     ensures { Reads instance_in result (instance_text bytes.now) }
 {
     let mut tokens = Tokens::new(bytes, Comment::Never);
-    let count = tokens.next_natural(0, 100)?;
+    let count = tokens.next_natural(0, MOST_JOBS)?;
     let mut jobs = Vec::with_capacity(alloc, count as usize)?;
     next_jobs(count, &mut tokens, &mut jobs)?;
     tokens.finish()?;

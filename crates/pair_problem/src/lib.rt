@@ -13,13 +13,15 @@
 #![tactic(auto)]
 
 mod adding;
+mod binary;
 mod listing;
 mod model;
 mod pair_model;
 mod places;
 mod problem;
 
-pub use adding::{add_pair, add_product, add_unit, nothing_of};
+pub use adding::{add_product, nothing_of};
+pub use binary::are_binary;
 pub use listing::PairProblem;
 pub use pair_model::PairModel;
 pub use places::{count_of_pairs, place_of_pair};

@@ -116,16 +116,6 @@ pub later-count : (i : Instance) (later : List ℤ) → later ≡ later_totals (
 later-count i later is =
     ap length is ∙ (length-later_totals (rows_of (length i.units) i.pairs) ∙ ap (λ n. n + 1) (length-rows_of (length i.units) i.pairs))
 
--- the words of a state
-
-pub words-none : (n : ℕ) → (n == 0) ≡ true → 1 ≡ words_of n
-words-none zero h = refl
-words-none (suc n) h = absurd (grind arith)
-
-pub words-some : (n : ℕ) → (n == 0) ≡ false → n ≡ words_of n
-words-some zero h = absurd (grind arith)
-words-some (suc n) h = refl
-
 -- the sums that are made
 
 -- the constant and the lesser numbers are read as they are

@@ -214,12 +214,6 @@ stakes-length d n ps stakes is = ap length is ∙ (length-map (rows_of n ps) (st
 pub cells-length : (d n : ℕ) (ps : List PairValues) (cells : List ℤ) → cells ≡ shifts_of d ps → length ps ≡ pair_count n → length cells ≡ pair_count n
 cells-length d n ps cells is whole = ap length is ∙ (length-map ps (shift_of d) ∙ whole)
 
--- a decision is one of two
-pub other-decision : (d : ℕ) → d < 2 → (d ≡ 0 → ⊥) → d ≡ 1
-other-decision zero h some = absurd (some refl)
-other-decision (suc zero) h some = refl
-other-decision (suc (suc d)) h some = absurd (omega arith)
-
 -- the stakes of a row are read as they are
 pub stakes-read : (d : ℕ) (row : List PairValues) (z : ℤ) → IsTrue (pairs_fit row) → pairs_most row ≤ℤ pos (2 ^ 48) → z ≡ stakes_of d row → read z ≡ stakes_of d row
 stakes-read d row z positive weight is =

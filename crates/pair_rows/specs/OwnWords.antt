@@ -1,5 +1,6 @@
 -- The value of an assignment in plain words: the sum of what all entries give.
 use Rattle.std.specs.Prelude.{ℕ, zero, suc, ℤ, pos, ◌+ℤ◌, Bool, true, ◌&&◌, nat_lt, ◌==◌, List, [], ◌∷◌, length, Option, Some, None, if◌then◌else◌}
+use Rattle.std.specs.List.{list_all}
 use Rattle.pair_rows.specs.declared.values.UnitValues.{UnitValues}
 use Rattle.pair_rows.specs.declared.values.PairValues.{PairValues}
 use Rattle.pair_rows.specs.Pairs.{rows_of}
@@ -37,8 +38,7 @@ value_of_all i xs = i.constant +ℤ (units_value i.units xs +ℤ rows_value (row
 
 -- whether each value is 0 or 1
 abbrev pub are_binary : List ℕ → Bool
-are_binary [] = true
-are_binary (x ∷ xs) = nat_lt x 2 && are_binary xs
+are_binary xs = list_all (λ x. nat_lt x 2) xs
 
 -- whether the first variable, where there is one, takes one of its values
 abbrev pub begins_within : ℕ → List ℕ → Bool

@@ -2,12 +2,13 @@
 //!
 //! `PairInstance` lists what is given, and `PairRows` prepares it for the calls of `DpModel`: layer `k` gives variable `k` its value,
 //! and a state has for each later variable how much more it gives by 1 than by 0. A decision adds a prepared row to the state. Its gain
-//! comes from sums of sizes alone. A problem of this kind keeps its own words and its text, holds the rows of the instance that
-//! equals it, and hands the calls of `DpModel` on. The crate stands on `dp_model` and `benefit_rows`.
+//! comes from sums of sizes alone. `pair_problem` makes a `DpModel` of a problem and its rows. The crate stands on `dp_model` and
+//! `benefit_rows`.
 //!
-//! Promised, each in the contract of its call: a call gives exactly what the program of the instance says. `lawful_program` and
-//! `is_chained` say that this program meets the laws, and `own_value-agrees` that its feasible solutions are the assignments, each
-//! with what all entries give as its value. Only want of memory has no stated cause.
+//! Promised, each in the contract of its call: a call gives exactly what the program of the instance says. This program meets the laws
+//! (`lawful_program` in `specs/Laws/Sizes.antt`), its gaps add up along chains (`is_chained` in `specs/Laws/Gaps.antt`), and its
+//! feasible solutions are the assignments (`own_value-agrees` in `specs/Laws/Solutions.antt`), each with what all entries give as its
+//! value. A call that takes memory may fail for want of it at any time.
 //!
 //! ```
 //! let rows = PairRows::prepared(alloc, &instance)?;

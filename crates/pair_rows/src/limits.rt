@@ -88,7 +88,7 @@ fn limits_of_units(alloc: Global, units: &[UnitValues]) -> Result<LayerLimits, A
 fn count_of_limits(units: &[UnitValues]) -> usize
     ensures { result ≡ length (first_limits units.now) }
 {
-    if units.is_empty() { 1 } else { units.len() }
+    units.len().max(1)
 }
 
 /// How large the benefit of a variable may be in the first layer.

@@ -24,11 +24,7 @@ impl PairRows {
     pub fn words(&self) -> usize
         ensures { result ≡ (program_in self.now).words }
     {
-        if self.variables == 0 {
-            1
-        } else {
-            self.variables
-        }
+        self.variables.max(1)
     }
 
     /// The number of values of variable `k`.

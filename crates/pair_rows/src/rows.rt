@@ -75,17 +75,25 @@ impl PairRows {
         })
     }
 
+    /// What a decision does to the later variables.
+    fn of_decision(&self, d: u32) -> &Shifts
+        requires { d < 2 }
+        ensures { AreShifts d (length (instance_in self.now).units) (instance_in self.now).pairs result.now.cells.items result.now.stakes.items result.now.changes.items }
+    {
+        if d == 0 {
+            &self.on_false
+        } else {
+            &self.on_true
+        }
+    }
+
     /// How far a decision of variable `k` shifts the benefit of each later one.
     pub(crate) fn shifts(&self, k: usize, d: u32) -> &[i64]
         requires variable { k < length (instance_in self.now).units }
         requires decision { d < 2 }
         ensures { result.now ≡ shifts_of d (row_at (rows_of (length (instance_in self.now).units) (instance_in self.now).pairs) k) }
     {
-        if d == 0 {
-            part_of_row(self.on_false.cells.as_slice(), self.variables, k)
-        } else {
-            part_of_row(self.on_true.cells.as_slice(), self.variables, k)
-        }
+        part_of_row(self.of_decision(d).cells.as_slice(), self.variables, k)
     }
 
     /// What the pairs of variable `k` with later ones give on both sides of these.
@@ -94,11 +102,7 @@ impl PairRows {
         requires decision { d < 2 }
         ensures { result ≡ stakes_of d (row_at (rows_of (length (instance_in self.now).units) (instance_in self.now).pairs) k) }
     {
-        if d == 0 {
-            self.on_false.stakes[k]
-        } else {
-            self.on_true.stakes[k]
-        }
+        self.of_decision(d).stakes[k]
     }
 
     /// What the shifts of a decision of variable `k` add to the hash of a state.
@@ -107,11 +111,7 @@ impl PairRows {
         requires decision { d < 2 }
         ensures { result ≡ change_of (shifts_of d (row_at (rows_of (length (instance_in self.now).units) (instance_in self.now).pairs) k)) }
     {
-        if d == 0 {
-            self.on_false.changes[k]
-        } else {
-            self.on_true.changes[k]
-        }
+        self.of_decision(d).changes[k]
     }
 
     /// How large the benefits of a state of layer `k` may be, from variable `k` on.
@@ -140,7 +140,7 @@ fn root_row(alloc: Global, units: &[UnitValues]) -> Result<Vec<i64>, AllocError>
 fn words_for(units: &[UnitValues]) -> usize
     ensures { result ≡ words_of (length units.now) }
 {
-    if units.is_empty() { 1 } else { units.len() }
+    units.len().max(1)
 }
 
 /// What belongs to variable `k` with each later one, among what belongs to all pairs of at most 1,024 variables.

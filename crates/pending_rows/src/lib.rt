@@ -3,8 +3,8 @@
 //! one from it and no later, and a step takes one number out.
 //!
 //! A row for the numbers below `n` has two sets of `words_for(n)` cells and one cell for the time, from 0 to 10^12. The crate
-//! stands on `node_sets`, each call is one pass over its rows, takes no memory and gives exactly what its definition says.
-//! `proofs/Covering` has what follows for the problems above: covering is a chain, a merged row covers both, and a step keeps
+//! stands on `node_sets`. No call takes memory. Each gives exactly what its definition says, but for `next_open`: its contract
+//! says only that no number before the answer is open. `proofs/Covering` has what follows for the problems above: covering is a chain, a merged row covers both, and a step keeps
 //! it. `proofs/OrderLaws` says which lists are orders.
 //!
 //! ```

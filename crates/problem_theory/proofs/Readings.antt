@@ -1,17 +1,22 @@
 -- What is read, printed or drawn as an instance is so as its numbers.
 use Rattle.std.proofs.Common.{◌≡◌, ℕ, ℤ, List, ap, IfOk}
-use Rattle.std.specs.Prelude.{Result, Ok, Err, Option, Some, option_map}
+use Rattle.std.specs.Prelude.{Result, Ok, Err, Some, option_map}
 use Rattle.tokens.specs.Grammar.{Reads}
 use Rattle.tokens.specs.declared.instance_error.InstanceError.{InstanceError}
 use Rattle.tokens.specs.declared.read_model_error.ReadModelError.{ReadModelError}
 use Rattle.tokens.specs.declared.read_model_error.ReadModelError.TheVariants as errors
-use Rattle.problem_theory.specs.Theory.{with_numbers, from_text, IsRead}
+use Rattle.problem_theory.specs.Theory.{with_numbers, of_text, IsRead}
 
-pub reads_numbers : {M X : Type 0} (view : M → X) (numbers : X → List ℤ) (outcome : Result M ReadModelError) (read : Result X InstanceError)
-    → Reads view outcome read → IsRead (λ m. numbers (view m)) (from_text outcome) (with_numbers numbers read)
-reads_numbers view numbers (Ok m) read h = ap (with_numbers numbers) h
-reads_numbers view numbers (Err (errors.Text e)) read h = ap (with_numbers numbers) h
-reads_numbers view numbers (Err errors.OutOfMemory) read h = tt
+pub numbers_read : {M X : Type 0} (view : M → X) (numbers : X → List ℤ) (m : M) (read : Result X InstanceError)
+    → Reads view (Ok m) read → IsRead (λ m. numbers (view m)) (Ok m) (with_numbers numbers read)
+numbers_read view numbers m read h = ap (with_numbers numbers) h
+
+pub numbers_unread : {M X : Type 0} (view : M → X) (numbers : X → List ℤ) (e : ReadModelError) (read : Result X InstanceError)
+    → Reads view (Err e) read → IsRead (λ m. numbers (view m)) (Err (of_text e)) (with_numbers numbers read)
+numbers_unread view numbers (errors.Text e) read h = ap (with_numbers numbers) h
+numbers_unread view numbers errors.OutOfMemory read h = tt
+
+pub ruleset reads_numbers = (numbers_read, numbers_unread)
 
 pub drawn_numbers : {M X : Type 0} (view : M → X) (numbers : X → List ℤ) (model : M) (drawn : X) → view model ≡ drawn
     → option_map (λ m. numbers (view m)) (Some model) ≡ Some (numbers drawn)

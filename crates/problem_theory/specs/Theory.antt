@@ -53,11 +53,10 @@ as_numbers refusal numbers (Err e) = Err (refusal e)
 abbrev pub with_numbers : {X : Type 0} → (X → List ℤ) → Result X InstanceError → Result (List ℤ) InstanceRefusal
 with_numbers numbers read = as_numbers Text numbers read
 
--- what a text of tokens is read as, among what any text is read as
-abbrev pub from_text : {M : Type 0} → Result M ReadModelError → Result M ReadInstanceError
-from_text (Ok m) = Ok m
-from_text (Err (texts.Text e)) = Err (Refused (Text e))
-from_text (Err texts.OutOfMemory) = Err OutOfMemory
+-- why a text of tokens is not read, among the reasons for any text
+abbrev pub of_text : ReadModelError → ReadInstanceError
+of_text (texts.Text e) = Refused (Text e)
+of_text texts.OutOfMemory = OutOfMemory
 
 -- what was read is what the text spells, or its first fault, or memory ran out
 abbrev pub IsRead : {M : Type 0} → (M → List ℤ) → Result M ReadInstanceError → Result (List ℤ) InstanceRefusal → Type 0

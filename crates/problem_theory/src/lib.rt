@@ -16,5 +16,5 @@ mod read_error;
 mod refusal;
 
 pub use problem::Problem;
-pub use read_error::{ReadInstanceError, of_text};
+pub use read_error::ReadInstanceError;
 pub use refusal::InstanceRefusal;

@@ -1,5 +1,5 @@
 ghost use Rattle.std.specs.Prelude.{◌≡◌};
-ghost use Rattle.problem_theory.specs.Theory.{from_text};
+ghost use Rattle.problem_theory.specs.Theory.{of_text};
 
 use crate::refusal::InstanceRefusal;
 use tokens::ReadModelError;
@@ -13,15 +13,13 @@ pub enum ReadInstanceError {
     OutOfMemory,
 }
 
-/// The outcome of reading a text of tokens, as the outcome of reading any text.
-pub fn of_text<M>(outcome: Result<M, ReadModelError>) -> Result<M, ReadInstanceError>
-    ensures { result ≡ from_text outcome }
-{
-    match outcome {
-        Ok(model) => Ok(model),
-        Err(ReadModelError::Text(error)) => {
-            Err(ReadInstanceError::Refused(InstanceRefusal::Text(error)))
+impl From<ReadModelError> for ReadInstanceError {
+    ghost from_gives = { λ e made. made ≡ of_text e };
+
+    fn from(e: ReadModelError) -> ReadInstanceError {
+        match e {
+            ReadModelError::Text(error) => ReadInstanceError::Refused(InstanceRefusal::Text(error)),
+            ReadModelError::OutOfMemory => ReadInstanceError::OutOfMemory,
         }
-        Err(ReadModelError::OutOfMemory) => Err(ReadInstanceError::OutOfMemory),
     }
 }

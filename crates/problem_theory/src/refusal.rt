@@ -6,6 +6,6 @@ use tokens::InstanceError;
 pub enum InstanceRefusal {
     /// The first fault of a text of tokens, and its place.
     Text(InstanceError),
-    /// The document, its form, or a test of its laws.
+    /// Why a document is no table of states.
     Table(TableError),
 }

@@ -1,10 +1,10 @@
 -- Quadratic optimisation as a problem of the program.
 use Rattle.std.proofs.Common.{sym, subst}
-use Rattle.std.specs.Prelude.{Some}
 use Rattle.dp_model.specs.Solution.{SolutionGives}
 use Rattle.pair_rows.specs.Limits.{IsInstance}
 use Rattle.pair_rows.specs.Program.{program_of}
-use Rattle.problem_theory.specs.Theory.{Theory, Agrees, with_numbers}
+use Rattle.problem_names.specs.declared.ModelName.TheVariants as problems
+use Rattle.problem_theory.specs.Theory.{Theory, Agrees, drawing_of, with_numbers}
 use Rattle.qubo.specs.Quadratic.{Quadratic, IsQuadratic, instance_of, numbers_of}
 use Rattle.qubo.specs.OwnWords.{own_value}
 use Rattle.qubo.specs.Printing.{text_of}
@@ -20,7 +20,7 @@ qubo_theory = record {
   program = program;
   canonical = λ numbers. text_of (instance_of numbers);
   own_value = λ numbers x. own_value (instance_of numbers) x;
-  drawing = Some (record { sizes = record { least = 0; most = 1024 }; instance = λ n seed. numbers_of (generated n seed) });
+  drawing = drawing_of problems.Qubo (λ n seed. numbers_of (generated n seed));
 }
 
 -- what is listed keeps to the limits

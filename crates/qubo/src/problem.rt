@@ -2,10 +2,10 @@ use crate::instance::Qubo;
 use dp_model::OutOfMemory;
 use pair_problem::PairProblem;
 use pair_rows::PairRows;
-use problem_theory::{ReadInstanceError, of_text};
+use problem_theory::ReadInstanceError;
 use std::alloc::Global;
 
-#[tactic(auto, using(problem_theory::proofs::Readings::reads_numbers, problem_theory::proofs::Readings::spelled_numbers, crate::specs::Laws::Numbers::round_trip))]
+#[tactic(auto, using(problem_theory::proofs::Readings::reads_numbers, problem_theory::proofs::Readings::drawn_numbers, problem_theory::proofs::Readings::spelled_numbers, crate::specs::Laws::Numbers::round_trip))]
 impl PairProblem for Qubo {
     ghost use Rattle.std.specs.Prelude.{refl};
     ghost use Rattle.qubo.specs.Quadratic.{numbers_of};
@@ -30,18 +30,18 @@ impl PairProblem for Qubo {
     }
 
     fn read(alloc: Global, bytes: &[u8]) -> Result<Qubo, ReadInstanceError> {
-        of_text(crate::read(alloc, bytes))
+        Ok(crate::reading::read(alloc, bytes)?)
     }
 
     fn print(alloc: Global, problem: &Qubo) -> Result<Vec<u8>, OutOfMemory> {
-        crate::print(alloc, problem)
+        crate::printing::print(alloc, problem)
     }
 
     fn value_of(problem: &Qubo, decisions: &[u32]) -> Option<i64> {
-        crate::value_of(problem, decisions)
+        crate::value::value_of(problem, decisions)
     }
 
     fn generate(alloc: Global, n: u32, seed: u32) -> Result<Qubo, OutOfMemory> {
-        crate::generate(alloc, n, seed)
+        crate::generating::generate(alloc, n, seed)
     }
 }

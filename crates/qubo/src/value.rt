@@ -1,6 +1,6 @@
 //! The problem's own words: a 0 or a 1 for each variable, and the sum of the lines whose variables are 1.
 
-ghost use Rattle.std.specs.Prelude.{◌≡◌, ◌≤◌, ◌^◌, true, length, nat_lt};
+ghost use Rattle.std.specs.Prelude.{◌≡◌, ◌≤◌, ◌^◌, true, length};
 ghost use Rattle.std.specs.List.{list_all};
 ghost use Rattle.dp_model.specs.Solution.{SolutionGives};
 ghost use Rattle.pair_rows.specs.Program.{program_of};
@@ -11,6 +11,7 @@ ghost use Rattle.qubo.specs.Shown.{instance_in};
 
 use crate::instance::Qubo;
 use crate::line::Line;
+use pair_problem::are_binary;
 
 /// The sum of the lines both of whose variables are 1, where the decisions are a 0 or a 1 for each variable. `None` exactly where they
 /// are not. Such decisions are the feasible solutions of the program, with this value.
@@ -30,13 +31,6 @@ fn sum_where_one(model: &Qubo, decisions: &[u32]) -> Option<i64>
     } else {
         None
     }
-}
-
-/// Whether each decision is 0 or 1.
-fn are_binary(decisions: &[u32]) -> bool
-    ensures { result ≡ list_all (λ x. nat_lt x 2) decisions.now }
-{
-    decisions.iter().all(|decision| *decision < 2)
 }
 
 /// The sum of the lines.

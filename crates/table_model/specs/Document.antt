@@ -11,7 +11,7 @@ abbrev pub at_most : ℕ → Option ℕ → Option ℕ
 at_most most None = None
 at_most most (Some n) = cond (nat_le n most) (Some n) None
 
--- a whole number from 0 to so much
+-- a whole number from 0 to `most`
 abbrev pub natural_of : ℕ → Data → Option ℕ
 natural_of most d = at_most most (option_and_then as_u64 (as_number d))
 

@@ -1,5 +1,5 @@
 -- A table as a problem of the program: its instances are read and none is drawn.
-use Rattle.std.specs.Prelude.{List, None, Result, Ok, Err}
+use Rattle.std.specs.Prelude.{List, None}
 use Rattle.problem_theory.specs.Theory.{Theory, as_numbers}
 use Rattle.problem_theory.specs.declared.refusal.InstanceRefusal.TheVariants.{Table}
 use Rattle.problem_theory.specs.declared.read_error.ReadInstanceError.{ReadInstanceError}
@@ -21,8 +21,7 @@ table_theory = record {
   drawing = None;
 }
 
--- what a document is read as, among what any text is read as
-abbrev pub from_table : {M : Type 0} → Result M ReadTableError → Result M ReadInstanceError
-from_table (Ok m) = Ok m
-from_table (Err (Refused e)) = Err (problems.Refused (Table e))
-from_table (Err OutOfMemory) = Err problems.OutOfMemory
+-- why a document is not read, among the reasons for any text
+abbrev pub of_table : ReadTableError → ReadInstanceError
+of_table (Refused e) = problems.Refused (Table e)
+of_table OutOfMemory = problems.OutOfMemory

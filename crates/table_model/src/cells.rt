@@ -10,7 +10,10 @@ ghost use Rattle.table_model.specs.Shape.{is_cell_between, is_state_between, is_
 use serde_json::Value;
 use std::alloc::{AllocError, Global};
 
-/// A whole number from 0 to so much.
+/// The greatest number of a state.
+const LAST_STATE: u64 = 31;
+
+/// A whole number from 0 to `most`.
 pub(crate) fn natural(value: &Value, most: u64) -> Option<u64>
     ensures { result ≡ natural_of most (view value.now) }
 {
@@ -80,7 +83,7 @@ impl Cell for u32 {
     ghost between = { is_state_between };
 
     fn read(value: &Value) -> Option<u32> {
-        let state = natural(value, 31)?;
+        let state = natural(value, LAST_STATE)?;
         Some(state as u32)
     }
 
@@ -105,7 +108,7 @@ impl Cell for Option<u32> {
         if value.is_null() {
             return Some(None);
         }
-        let state = natural(value, 31)?;
+        let state = natural(value, LAST_STATE)?;
         Some(Some(state as u32))
     }
 

@@ -11,10 +11,21 @@ ghost use Rattle.table_model.specs.Outlines.{outline_shown};
 use crate::cells::{Cell, natural, row, rows};
 use crate::error::ReadTableError;
 use crate::layer::Layer;
-use crate::shape::{is_layer, is_small};
+use crate::shape::{MOST_STATES, is_layer, is_small};
 use serde_json::Value;
 use std::alloc::{AllocError, Global};
 use table_refusal::TableError;
+
+const MOST_LAYERS: usize = 65;
+
+/// The keys of a last layer.
+const LAST_KEYS: usize = 4;
+
+/// The keys of any other layer.
+const INNER_KEYS: usize = 7;
+
+/// The keys of the whole document.
+const OUTLINE_KEYS: usize = 2;
 
 /// A document without the contents of its layers.
 #[derive(Clone, Copy, Debug)]
@@ -37,7 +48,10 @@ fn has_members(value: &Value, many: usize) -> bool
 fn count_at(value: &Value, key: &str) -> u32
     ensures { result ≡ count_at key.now (view value.now) }
 {
-    match value.get(key).and_then(|count| natural(count, 32)) {
+    match value
+        .get(key)
+        .and_then(|count| natural(count, u64::from(MOST_STATES)))
+    {
         Some(count) => count as u32,
         None => 0,
     }
@@ -114,7 +128,7 @@ fn with_decisions(alloc: Global, value: &Value, layer: Layer) -> Result<Option<L
 fn last_lists(alloc: Global, value: &Value, states: u32) -> Result<Option<Layer>, AllocError>
     ensures { IfOk result (λ o. o ≡ last_lists states (view value.now)) }
 {
-    if has_members(value, 4) {
+    if has_members(value, LAST_KEYS) {
         state_lists(alloc, value, states)
     } else {
         Ok(None)
@@ -125,7 +139,7 @@ fn last_lists(alloc: Global, value: &Value, states: u32) -> Result<Option<Layer>
 fn inner_lists(alloc: Global, value: &Value, states: u32) -> Result<Option<Layer>, AllocError>
     ensures { IfOk result (λ o. o ≡ inner_lists states (view value.now)) }
 {
-    if !has_members(value, 7) {
+    if !has_members(value, INNER_KEYS) {
         return Ok(None);
     }
     match state_lists(alloc, value, states)? {
@@ -172,7 +186,7 @@ fn states_after(values: &[Value]) -> u32
 {
     match values.first() {
         Some(value) => match states_in(value) {
-            0 => 32,
+            0 => MOST_STATES,
             states => states,
         },
         None => 0,
@@ -214,7 +228,7 @@ fn root_value(value: &Value) -> Option<i64>
 fn is_layer_count(count: usize) -> bool
     ensures { result ≡ is_layer_count count }
 {
-    1 <= count && count <= 65
+    1 <= count && count <= MOST_LAYERS
 }
 
 /// The list of 1 to 65 items at the key of the layers.
@@ -238,7 +252,7 @@ pub(crate) fn read_outline(value: &Value) -> Option<Outline>
     ensures some { IfSome result (λ o. 1 ≤ length o.layers.now) }
     ensures small { IfSome result (λ o. is_small o.root_value ≡ true) }
 {
-    if !has_members(value, 2) {
+    if !has_members(value, OUTLINE_KEYS) {
         return None;
     }
     let root_value = root_value(value)?;

@@ -1,24 +1,7 @@
-ghost use Rattle.std.specs.Prelude.{◌≡◌};
-ghost use Rattle.table_model.specs.Theory.{from_table};
-
-use crate::error::ReadTableError;
 use crate::table::TableModel;
 use dp_model::OutOfMemory;
-use problem_theory::{InstanceRefusal, Problem, ReadInstanceError};
+use problem_theory::{Problem, ReadInstanceError};
 use std::alloc::Global;
-
-/// What a document is read as, among what any text is read as.
-fn of_table(outcome: Result<TableModel, ReadTableError>) -> Result<TableModel, ReadInstanceError>
-    ensures { result ≡ from_table outcome }
-{
-    match outcome {
-        Ok(model) => Ok(model),
-        Err(ReadTableError::Refused(error)) => {
-            Err(ReadInstanceError::Refused(InstanceRefusal::Table(error)))
-        }
-        Err(ReadTableError::OutOfMemory) => Err(ReadInstanceError::OutOfMemory),
-    }
-}
 
 #[tactic(auto, using(crate::proofs::Readings::reads_table, crate::proofs::Readings::spelled_table, crate::specs::Laws::Coded::round_trip))]
 impl Problem for TableModel {
@@ -34,15 +17,15 @@ impl Problem for TableModel {
     ghost agrees = { λ m. table_agrees (table_shown m) (record { root_value = m.small; some = m.some; few = m.few; layers = m.layered }) };
 
     fn read(alloc: Global, bytes: &[u8]) -> Result<TableModel, ReadInstanceError> {
-        of_table(crate::read(alloc, bytes))
+        Ok(crate::reading::read(alloc, bytes)?)
     }
 
     fn print(alloc: Global, model: &TableModel) -> Result<Vec<u8>, OutOfMemory> {
-        crate::print(alloc, model)
+        crate::printing::print(alloc, model)
     }
 
     fn value_of(model: &TableModel, decisions: &[u32]) -> Option<i64> {
-        crate::value_of(model, decisions)
+        crate::value::value_of(model, decisions)
     }
 
     fn generate(_alloc: Global, _n: u32, _seed: u32) -> Result<Option<TableModel>, OutOfMemory> {

@@ -7,6 +7,9 @@ ghost use Rattle.table_model.specs.Shape.{is_small, is_row, is_grid, is_count, h
 use crate::cells::Cell;
 use crate::layer::Layer;
 
+/// The most states of a layer, and the most decisions of a state.
+pub(crate) const MOST_STATES: u32 = 32;
+
 // Numbers are at most 2^50 in size.
 const MOST: i64 = 1 << 50;
 
@@ -63,7 +66,7 @@ fn is_grid<T: Cell>(rows: &[Vec<T>], height: u32, width: u32, least: i64, most: 
 fn is_count(number: u32) -> bool
     ensures { result ≡ is_count number }
 {
-    1 <= number && number <= 32
+    1 <= number && number <= MOST_STATES
 }
 
 /// The number of the last of this many states.

@@ -8,7 +8,7 @@ pub enum Law {
     GapIsSound,
     /// The gap of a state to itself is 0.
     OwnGapIsZero,
-    /// A merged state has a gap to all that the first of its two states has one to, and to the second.
+    /// The merge of `x` and `s` has a gap to `s`, and to each state to which `x` has one.
     MergeCovers,
     /// A rough bound is at least what each decision gains with the rough bound after it, and 0 at the last layer.
     RoughBounds,
@@ -17,7 +17,8 @@ pub enum Law {
 }
 
 impl Law {
-    /// The number by which the law is printed.
+    /// The number by which the law is printed: its place among the laws of a dynamic program. Of these, 1 (steps are states) and 6
+    /// (sizes) need no test, since each table of the right form meets them.
     pub fn number(self) -> u8
         ensures { result ≡ number_of self }
     {

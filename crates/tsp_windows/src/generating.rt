@@ -12,7 +12,7 @@ use crate::window::Window;
 use draws::Draws;
 use std::alloc::{AllocError, Global};
 
-/// How long before and how long after the time of a node on the way its window is open.
+/// How long a window is open before its node is reached on the tour `0, 1, .., n - 1, 0`, and how long after.
 const SLACK: u64 = 40;
 
 /// Draws the distance at a place in the rows: from 10 to 50, and 0 without a draw from a node to itself.
@@ -71,7 +71,7 @@ fn home_again(nodes: usize, distances: &[u32]) -> u64
     time + u64::from(distances[(nodes - 1) * nodes])
 }
 
-/// The windows round the times at which the nodes are reached on that way.
+/// The windows around the times at which that tour reaches the nodes.
 fn windows_along(alloc: Global, nodes: usize, distances: &[u32]) -> Result<Vec<Window>, AllocError>
     requires some { 1 ≤ nodes }
     requires few { nodes ≤ 300 }
@@ -94,8 +94,8 @@ fn windows_along(alloc: Global, nodes: usize, distances: &[u32]) -> Result<Vec<W
     Ok(windows)
 }
 
-/// Draws a problem of `n` nodes, 1 to 300, from a seed below 2^31: the distances, and windows round the way from node to node in the
-/// order of their numbers, which is a tour in time. Fails only for want of memory.
+/// Draws a problem of `n` nodes, 1 to 300, from a seed below 2^31: the distances, and windows around the times of the tour
+/// `0, 1, .., n - 1, 0`, which is feasible. Fails only for want of memory.
 pub fn generate(alloc: Global, n: u32, seed: u32) -> Result<TspWindows, AllocError>
     requires some { 1 ≤ n }
     requires few { n ≤ 300 }

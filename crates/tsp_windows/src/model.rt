@@ -10,7 +10,7 @@ ghost use Rattle.tsp_windows.specs.FromHome.{IsFromHome};
 ghost use Rattle.tsp_windows.specs.Shown.{instance_in};
 
 use crate::instance::TspWindows;
-use crate::parts::{few, pending_of, positions_of, time_of};
+use crate::parts::{MOST_WORDS, few, pending_of, positions_of, time_of};
 use crate::ways::{least_leg, ways_within};
 use dp_model::{DpModel, Extended, fold};
 use node_sets::{
@@ -277,8 +277,8 @@ fn write_root(out: &mut [i64], model: &TspWindows)
     time[0] = model.windows[0].opening as i64;
 }
 
-/// Writes the state after a visit, by when the node is left. A set takes at most 10 words, which is said where it can be seen by a
-/// compiler.
+/// Writes the state after a visit, by when the node is left. The code repeats that a set takes at most 10 words, for
+/// the compiler.
 #[inline]
 fn write_moved(out: &mut [i64], model: &TspWindows, s: &[i64], to: usize, departure: u64)
     requires cells { length out.old ≡ 3 * sets.words_for model.now.nodes + 1 }
@@ -288,7 +288,7 @@ fn write_moved(out: &mut [i64], model: &TspWindows, s: &[i64], to: usize, depart
     requires small { departure < 2 ^ 62 }
     ensures { out.new ≡ row_for (sets.words_for model.now.nodes) (states.moved (instance_in model.now) (shown (sets.words_for model.now.nodes) s.now) to) }
 {
-    let words = words_for(model.nodes).min(10);
+    let words = words_for(model.nodes).min(MOST_WORDS);
     let state = parts_of(model.nodes, pending_of(model.nodes, s));
     let (positions, rest) = out.split_at_mut(words);
     let (must, rest) = rest.split_at_mut(words);

@@ -11,14 +11,19 @@ ghost use Rattle.tsp_windows.specs.States.{shown, is_state_row};
 use node_sets::words_for;
 use pending_rows::parts_of;
 
-/// The number of nodes. That it is at most 300 is said where it can be seen by a compiler, so that loops over so few words are not
-/// prepared for long ones.
+/// The most nodes of a problem.
+pub(crate) const MOST_NODES: usize = 300;
+
+/// The words of a set of that many nodes.
+pub(crate) const MOST_WORDS: usize = 10;
+
+/// The number of nodes. The code repeats its bound, so that the compiler keeps loops over at most ten words short.
 #[inline]
 pub(crate) fn few(nodes: usize) -> usize
     requires { nodes ≤ 300 }
     ensures { result ≡ nodes }
 {
-    nodes.min(300)
+    nodes.min(MOST_NODES)
 }
 
 /// The set of the nodes where a tour may stand.

@@ -1,6 +1,6 @@
 use crate::TspWindows;
 use dp_model::OutOfMemory;
-use problem_theory::{Problem, ReadInstanceError, of_text};
+use problem_theory::{Problem, ReadInstanceError};
 use std::alloc::Global;
 
 #[tactic(auto, using(problem_theory::proofs::Readings::reads_numbers, problem_theory::proofs::Readings::drawn_numbers, problem_theory::proofs::Readings::spelled_numbers))]
@@ -16,18 +16,18 @@ impl Problem for TspWindows {
     ghost agrees = { λ m. tour_agrees (instance_in m) m.small m.spelled };
 
     fn read(alloc: Global, bytes: &[u8]) -> Result<TspWindows, ReadInstanceError> {
-        of_text(crate::read(alloc, bytes))
+        Ok(crate::reading::read(alloc, bytes)?)
     }
 
     fn print(alloc: Global, model: &TspWindows) -> Result<Vec<u8>, OutOfMemory> {
-        crate::print(alloc, model)
+        crate::printing::print(alloc, model)
     }
 
     fn value_of(model: &TspWindows, decisions: &[u32]) -> Option<i64> {
-        crate::value_of(model, decisions)
+        crate::value::value_of(model, decisions)
     }
 
     fn generate(alloc: Global, n: u32, seed: u32) -> Result<Option<TspWindows>, OutOfMemory> {
-        Ok(Some(crate::generate(alloc, n, seed)?))
+        Ok(Some(crate::generating::generate(alloc, n, seed)?))
     }
 }

@@ -7,10 +7,15 @@ ghost use Rattle.tsp_windows.specs.Shown.{instance_in};
 ghost use Rattle.tsp_windows.specs.Texts.{distance_at, window_at, nodes_at, spelled};
 
 use crate::instance::TspWindows;
+use crate::parts::MOST_NODES;
 use crate::ways::{least_ways, moments_too_late};
 use crate::window::Window;
 use std::alloc::{AllocError, Global};
 use tokens::{Comment, InstanceError, InstanceFault, ReadModelError, Tokens};
+
+const GREATEST_DISTANCE: i64 = 1_000_000_000;
+
+const LATEST_CLOSING: i64 = 1_000_000_000_000;
 
 /// Reads a distance after those before it.
 #[tactic(auto, unfolding(crate::specs::Texts::distance_at))]
@@ -22,7 +27,7 @@ fn read_distance(
     requires { 1 ≤ nodes }
     ensures { Reads (λ _. (distances.new.items, tokens.new)) result (distance_at nodes distances.old.items tokens.old) }
 {
-    let distance = tokens.next_number(0, 1_000_000_000)? as u32;
+    let distance = tokens.next_number(0, GREATEST_DISTANCE)? as u32;
     let place = distances.len();
     let kept = if place / nodes == place % nodes {
         0
@@ -38,9 +43,9 @@ fn read_distance(
 fn read_window(tokens: &mut Tokens, windows: &mut Vec<Window>) -> Result<(), ReadModelError>
     ensures { Reads (λ _. (windows.new.items, tokens.new)) result (window_at windows.old.items tokens.old) }
 {
-    let opening = tokens.next_number(0, 1_000_000_000_000)?;
+    let opening = tokens.next_number(0, LATEST_CLOSING)?;
     let place = tokens.place();
-    let closing = tokens.next_number(0, 1_000_000_000_000)?;
+    let closing = tokens.next_number(0, LATEST_CLOSING)?;
     if closing < opening {
         return Err(ReadModelError::Text(InstanceError {
             fault: InstanceFault::Window,
@@ -138,6 +143,6 @@ pub fn read(alloc: Global, bytes: &[u8]) -> Result<TspWindows, ReadModelError>
     ensures { Reads instance_in result (spelled bytes.now) }
 {
     let mut tokens = Tokens::new(bytes, Comment::Hash);
-    let nodes = tokens.next_number(1, 300)? as usize;
+    let nodes = tokens.next_number(1, MOST_NODES as i64)? as usize;
     read_nodes(alloc, nodes, &mut tokens)
 }

@@ -21,8 +21,8 @@ fn lesser(least: Option<u32>, way: u32) -> Option<u32>
     }
 }
 
-/// The least distance to a node from one of many positions other than it, or none where there is no such position. It stands apart
-/// from the way from an only position, which is what is built into each try of a decision.
+/// The least distance to a node from one of many positions other than it, or none where there is no such position. It is never
+/// inlined: only the case of a single position, in `least_leg`, is.
 #[inline(never)]
 fn least_of_legs(nodes: usize, distances: &[u32], positions: &[i64], to: usize) -> Option<u32>
     requires few { nodes ≤ 300 }

@@ -1,8 +1,8 @@
 /// When a node may be visited.
 #[derive(Clone, Copy, Debug, PartialEq, Eq)]
 pub struct Window {
-    /// An arrival before it waits until then.
+    /// The earliest time of a visit. A tour that arrives earlier waits.
     pub opening: u64,
-    /// An arrival after it is too late.
+    /// The latest time of an arrival.
     pub closing: u64,
 }

@@ -62,9 +62,6 @@ rows-kept g h =
 
 -- the weight across
 
-abbrev are_sides : List ℕ → Bool
-are_sides ds = list_all (λ d. nat_lt d 2) ds
-
 side-is : (d : ℕ) → nat_lt d 2 ≡ true → d < 2
 side-is d h = grind (arith, nat_tests)
 
@@ -78,23 +75,23 @@ pair-across w zero (suc (suc e)) few h = absurd (omega arith)
 pair-across w (suc zero) (suc (suc e)) few h = absurd (omega arith)
 pair-across w (suc (suc d)) e few h = absurd (omega arith)
 
-row-across : (row : List ℤ) (d : ℕ) (ds : List ℕ) → d < 2 → are_sides ds ≡ true → length row ≡ length ds → negatives_of row +ℤ plain.row_value (map pair_values row) d ds ≡ across_from d row ds
+row-across : (row : List ℤ) (d : ℕ) (ds : List ℕ) → d < 2 → plain.are_binary ds ≡ true → length row ≡ length ds → negatives_of row +ℤ plain.row_value (map pair_values row) d ds ≡ across_from d row ds
 row-across [] d [] few h e = refl
 row-across [] d (x ∷ ds) few h e = absurd (omega arith)
 row-across (w ∷ row) d [] few h e = absurd (omega arith)
 row-across (w ∷ row) d (x ∷ ds) few h e =
-    let both = and_parts (nat_lt x 2) (are_sides ds) h in
+    let both = and_parts (nat_lt x 2) (plain.are_binary ds) h in
     omega (arith, ints, pair-across w d x few (side-is x both.0), row-across row d ds few both.1 (omega arith))
 
 negatives_of-append : (ws more : List ℤ) → negatives_of (ws ++ more) ≡ negatives_of ws +ℤ negatives_of more
 negatives_of-append [] more = omega (arith, ints)
 negatives_of-append (w ∷ ws) more = omega (arith, ints, negatives_of-append ws more)
 
-rows-across : (ws : List ℤ) (ds : List ℕ) → are_sides ds ≡ true → length ws ≡ pair_count (length ds) → negatives_of ws +ℤ plain.rows_value (rows_of (length ds) (map pair_values ws)) ds ≡ weight_across ws ds
+rows-across : (ws : List ℤ) (ds : List ℕ) → plain.are_binary ds ≡ true → length ws ≡ pair_count (length ds) → negatives_of ws +ℤ plain.rows_value (rows_of (length ds) (map pair_values ws)) ds ≡ weight_across ws ds
 rows-across [] [] sides whole = refl
 rows-across (w ∷ ws) [] sides whole = absurd (omega arith)
 rows-across ws (d ∷ ds) sides whole =
-    let both = and_parts (nat_lt d 2) (are_sides ds) sides in
+    let both = and_parts (nat_lt d 2) (plain.are_binary ds) sides in
     let n : ℕ = length ds in
     let row : List ℤ = take n ws in
     let rest : List ℤ = drop n ws in
@@ -121,21 +118,16 @@ begins-same (suc d ∷ ds) =
     let above : nat_lt (suc d) 1 ≡ false = grind (arith, nat_tests) in
     later ∙ sym above
 
-binary-same : (ds : List ℕ) → are_sides ds ≡ plain.are_binary ds
-binary-same [] = refl
-binary-same (d ∷ ds) = ap (λ b. nat_lt d 2 && b) (binary-same ds)
-
 pub test-same : (g : Graph) (x : List ℕ) → is_cut g x ≡ plain.is_assignment (rows_in g) x
 test-same g x =
-    ap (λ n. (length x == n) && (begins_on_S x && are_sides x)) (sym (length-replicate g.vertices no_unit))
-    ∙ (ap (λ b. (length x == length (replicate g.vertices no_unit)) && (b && are_sides x)) (begins-same x)
-    ∙ ap (λ b. (length x == length (replicate g.vertices no_unit)) && (plain.begins_within 1 x && b)) (binary-same x))
+    ap (λ n. (length x == n) && (begins_on_S x && plain.are_binary x)) (sym (length-replicate g.vertices no_unit))
+    ∙ ap (λ b. (length x == length (replicate g.vertices no_unit)) && (b && plain.are_binary x)) (begins-same x)
 
 -- what a cut is
-pub cut_parts : (g : Graph) (x : List ℕ) → is_cut g x ≡ true → (length x ≡ g.vertices) × (are_sides x ≡ true)
+pub cut_parts : (g : Graph) (x : List ℕ) → is_cut g x ≡ true → (length x ≡ g.vertices) × (plain.are_binary x ≡ true)
 cut_parts g x h =
-    let whole = and_parts (length x == g.vertices) (begins_on_S x && are_sides x) h in
-    let rest = and_parts (begins_on_S x) (are_sides x) whole.1 in
+    let whole = and_parts (length x == g.vertices) (begins_on_S x && plain.are_binary x) h in
+    let rest = and_parts (begins_on_S x) (plain.are_binary x) whole.1 in
     let test : (length x == g.vertices) ≡ true = whole.0 in
     (grind (arith, nat_tests), rest.1)
 

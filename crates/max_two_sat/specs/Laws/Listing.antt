@@ -9,6 +9,7 @@ use Rattle.pair_rows.specs.Instance.{units_most, pairs_most}
 use Rattle.pair_rows.specs.Limits.{IsInstance, is_up_to, unit_fits, pair_fits, units_fit, pairs_fit}
 use Rattle.pair_rows.specs.Laws.Limits.{is-up_to}
 use Rattle.pair_rows.specs.Laws.Pairs.{rows_of-map}
+use Rattle.pair_rows.specs.Laws.Solutions.{begins-binary}
 use Rattle.pair_rows.specs.OwnWords as plain
 use Rattle.max_two_sat.specs.declared.weights.UnitWeights.{UnitWeights}
 use Rattle.max_two_sat.specs.declared.weights.PairWeights.{PairWeights}
@@ -16,7 +17,7 @@ use Rattle.max_two_sat.specs.Instance.{Instance, unit_total, pair_total, units_t
 use Rattle.max_two_sat.specs.Limits.{IsWithinLimits, unit_is_positive, pair_is_positive, units_are_positive, pairs_are_positive}
 use Rattle.max_two_sat.specs.Laws.Limits.{unit-positive, pair-positive}
 use Rattle.max_two_sat.specs.Laws.Totals.{parts-small}
-use Rattle.max_two_sat.specs.OwnWords.{unit_value, pair_value, units_value, row_value, rows_value, weight_of, all_truth_values}
+use Rattle.max_two_sat.specs.OwnWords.{unit_value, pair_value, units_value, row_value, rows_value, weight_of}
 use Rattle.max_two_sat.specs.Program.{unit_values, pair_values, rows_in}
 
 -- in range
@@ -104,19 +105,7 @@ weight-same i xs =
 
 -- the same assignments
 
-binary-same : (xs : List ℕ) → all_truth_values xs ≡ plain.are_binary xs
-binary-same [] = refl
-binary-same (x ∷ xs) = ap (λ b. nat_lt x 2 && b) (binary-same xs)
-
-twice : (a b : Bool) → a && b ≡ a && (a && b)
-twice true b = refl
-twice false b = refl
-
-begins-same : (xs : List ℕ) → plain.are_binary xs ≡ plain.begins_within 2 xs && plain.are_binary xs
-begins-same [] = refl
-begins-same (x ∷ xs) = twice (nat_lt x 2) (plain.are_binary xs)
-
-pub test-same : (i : Instance) (xs : List ℕ) → (length xs == length i.units) && all_truth_values xs ≡ plain.is_assignment (rows_in i) xs
+pub test-same : (i : Instance) (xs : List ℕ) → (length xs == length i.units) && plain.are_binary xs ≡ plain.is_assignment (rows_in i) xs
 test-same i xs =
-    ap (λ n. (length xs == n) && all_truth_values xs) (sym (length-map i.units unit_values))
-    ∙ ap (λ b. (length xs == length (map unit_values i.units)) && b) (binary-same xs ∙ begins-same xs)
+    ap (λ n. (length xs == n) && plain.are_binary xs) (sym (length-map i.units unit_values))
+    ∙ ap (λ b. (length xs == length (map unit_values i.units)) && b) (begins-binary xs)

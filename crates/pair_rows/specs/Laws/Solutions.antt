@@ -16,6 +16,15 @@ use Rattle.pair_rows.specs.Program.{lesser_units, root_of, program_of}
 use Rattle.pair_rows.specs.Laws.Split.{gain_split}
 use Rattle.pair_rows.specs.Laws.States.{state-is, steps_are_states}
 
+-- where the first variable takes both values, each list of values begins within its own
+twice : (a b : Bool) → (a && b) ≡ (a && (a && b))
+twice true b = refl
+twice false b = refl
+
+pub begins-binary : (xs : List ℕ) → are_binary xs ≡ (begins_within 2 xs && are_binary xs)
+begins-binary [] = refl
+begins-binary (x ∷ xs) = twice (nat_lt x 2) (are_binary xs)
+
 -- paths are lists of values
 
 later-choices : (i : Instance) (k : ℕ) → 1 ≤ k → (program_of i).choices k ≡ 2

@@ -1,5 +1,5 @@
 -- The variables and pairs that the lines list keep to the limits, and give what the lines weigh.
-use Rattle.std.proofs.Common.{◌≡◌, ℕ, ◌+◌, ◌*◌, ◌^◌, ◌<◌, ◌≤◌, ℤ, pos, neg_ℤ, ◌+ℤ◌, ◌≤ℤ◌, List, [], ◌∷◌, length, Bool, true, false, arith, refl, ap, ◌∙◌, sym, subst, cond, leb-true, ltb-true, Some, None}
+use Rattle.std.proofs.Common.{◌≡◌, ℕ, ◌+◌, ◌*◌, ◌^◌, ◌<◌, ◌≤◌, pos, neg_ℤ, ◌+ℤ◌, ◌≤ℤ◌, List, [], ◌∷◌, length, Bool, true, false, arith, refl, ap, ◌∙◌, sym, subst, cond, leb-true, ltb-true, Some, None}
 use Rattle.std.specs.Prelude.{◌&&◌, ◌==◌, nat_lt, fold}
 use Rattle.std.specs.List.{list_all}
 use Rattle.std.proofs.lemmas.Int.{ints, clamps}
@@ -10,7 +10,7 @@ use Rattle.dp_model.specs.NumberLaws.{int_le-is}
 use Rattle.dp_model.specs.Solution.{SolutionGives}
 use Rattle.pair_rows.specs.Instance.{Instance, no_unit}
 use Rattle.pair_rows.specs.Limits.{IsInstance}
-use Rattle.pair_rows.specs.Laws.Solutions.{own_value-agrees}
+use Rattle.pair_rows.specs.Laws.Solutions.{begins-binary, own_value-agrees}
 use Rattle.pair_rows.specs.OwnWords as plain
 use Rattle.pair_rows.specs.Program.{program_of}
 use Rattle.pair_problem.specs.Adding.{nothing_of}
@@ -102,18 +102,6 @@ pub rows-kept : (q : Quadratic) → IsQuadratic q → IsInstance (rows_in q)
 rows-kept q h = (lists-lines q h).kept
 
 -- the same assignments, of the same value
-
-all-binary : (xs : List ℕ) → list_all (λ x. nat_lt x 2) xs ≡ plain.are_binary xs
-all-binary [] = refl
-all-binary (x ∷ xs) = ap (λ b. nat_lt x 2 && b) (all-binary xs)
-
-and-again : (a b : Bool) → (a && b) ≡ (a && (a && b))
-and-again true b = refl
-and-again false b = refl
-
-begins-binary : (xs : List ℕ) → list_all (λ x. nat_lt x 2) xs ≡ (plain.begins_within 2 xs && plain.are_binary xs)
-begins-binary [] = refl
-begins-binary (x ∷ xs) = and-again (nat_lt x 2) (list_all (λ y. nat_lt y 2) xs) ∙ ap (λ b. nat_lt x 2 && (nat_lt x 2 && b)) (all-binary xs)
 
 test-same : (q : Quadratic) → IsQuadratic q → (xs : List ℕ) → is_assignment q xs ≡ plain.is_assignment (rows_in q) xs
 test-same q h xs =

@@ -3,7 +3,8 @@ use Rattle.std.proofs.lemmas.Int.{ints}
 use Rattle.std.proofs.lemmas.List.{get_or_default}
 use Rattle.max_two_sat.specs.declared.weights.PairWeights.{PairWeights}
 use Rattle.pair_rows.specs.Pairs.{pair_count, entries_before}
-use Rattle.max_two_sat.specs.Clauses.{heavier_pair, place_of_pair}
+use Rattle.pair_problem.specs.Adding.{place_of}
+use Rattle.max_two_sat.specs.Clauses.{heavier_pair}
 use Rattle.max_two_sat.specs.Drafted.{instance_gathered}
 use Rattle.max_two_sat.specs.Instance.{no_pair, pair_total, pairs_total}
 use Rattle.max_two_sat.specs.Limits.{PairIsPositive}
@@ -41,5 +42,5 @@ returns-clause-instance c =
     let value : c.pair_with.result ≡ heavier_pair (get_or c.args.self.now.pairs.items c.place_of_pair-place.result no_pair) c.args.a.positive c.args.b.positive c.args.weight =
     c.pair_with.ensures ∙ (rw (old, read) refl) in
     let start = ap (λ n. entries_before n c.args.a.variable) long in
-    let place : c.place_of_pair-place.result ≡ place_of_pair (length c.args.self.now.units.items) c.args.a.variable c.args.b.variable = omega (arith, c.place_of_pair-place.ensures.place, c.requires.lesser) in
+    let place : c.place_of_pair-place.result ≡ place_of (length c.args.self.now.units.items) c.args.a.variable c.args.b.variable = omega (arith, c.place_of_pair-place.ensures.place, c.requires.lesser) in
     rw (value, place) refl
