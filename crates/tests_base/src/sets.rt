@@ -23,7 +23,7 @@ fn members_are_looked_up(rt: HostRuntime) {
     equal(&rt, at_word_ends, [true, false, true]);
     equal(&rt, [contains(&row, 40), contains(&row, 63)], [true, false]);
     for (from, next) in [(0, Some(0)), (1, Some(32)), (33, Some(40)), (41, None)] {
-        equal(&rt, next_member(&[1, 257], from), next);
+        equal(&rt, next_of_either(&[1, 257], &[1, 257], from), next);
     }
 }
 
