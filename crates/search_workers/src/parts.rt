@@ -36,7 +36,11 @@ impl Parts {
     }
 
     /// What expands layers in this many parts, each by a thread of the runtime where one can be made. It takes no memory.
-    pub(crate) fn expander<'r, R: Threads + Sync>(self, rt: &'r R, alloc: Global) -> Expander<'r, R> {
+    pub(crate) fn expander<'r, R: Threads + Sync>(
+        self,
+        rt: &'r R,
+        alloc: Global,
+    ) -> Expander<'r, R> {
         Expander::in_parts(rt, alloc, self.count)
     }
 }
