@@ -4,13 +4,13 @@ use Rattle.std.proofs.lemmas.Fmt.{length-decimal-le}
 use Rattle.std.specs.List.{All}
 use Rattle.std.proofs.lemmas.List.{length-append}
 use Rattle.std.proofs.lemmas.List.Elements.{All-take, All-drop, All-head, All-tail}
-use Rattle.tokens.specs.Decimal.{decimal_of}
+use Rattle.tokens.specs.Decimal.{decimal_of, spaced, ended}
 use Rattle.tokens.proofs.Lengths.{number_short}
 use Rattle.pair_rows.specs.Pairs.{entries_before}
 use Rattle.max_cut.specs.Graph.{Graph, IsGraph, IsWeight, row_of, weights_from}
 use Rattle.pair_rows.specs.Laws.Pairs.{pair_count-most}
 use Rattle.max_cut.specs.Laws.Graph.{length-row_of, weights_from-split}
-use Rattle.max_cut.specs.EdgeLines.{is_none, edges_in, spaced, ended, edge_line, row_lines, lines_from, text_of}
+use Rattle.max_cut.specs.EdgeLines.{is_none, edges_in, edge_line, row_lines, lines_from, text_of}
 use Rattle.max_cut.proofs.Rereading.{edges_in-most, written}
 
 spaced_short : (n : ℕ) → n ≤ 1024 → length (spaced n) ≤ 5

@@ -1,6 +1,6 @@
 -- The canonical text of a graph.
 use Rattle.std.specs.Prelude.{ℕ, zero, suc, ◌+◌, ℤ, pos, int_le, List, [], ◌∷◌, ◌++◌, Bool, ◌&&◌, if◌then◌else◌}
-use Rattle.tokens.specs.Decimal.{decimal_of}
+use Rattle.tokens.specs.Decimal.{ended, spaced}
 use Rattle.max_cut.specs.Graph.{Graph, row_of}
 
 -- whether no edge stands
@@ -11,14 +11,6 @@ is_none w = int_le w (pos 0) && int_le (pos 0) w
 abbrev pub edges_in : List ℤ → ℕ
 edges_in [] = 0
 edges_in (w ∷ ws) = (if is_none w then 0 else 1) + edges_in ws
-
--- a number and the byte after it
-abbrev pub spaced : ℕ → List ℕ
-spaced n = decimal_of (pos n) ++ 32 ∷ []
-
--- a number and the end of its line
-abbrev pub ended : ℤ → List ℕ
-ended z = decimal_of z ++ 10 ∷ []
 
 -- the line of an edge, with vertices from 1
 abbrev pub edge_line : ℕ → ℕ → ℤ → List ℕ

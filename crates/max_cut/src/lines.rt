@@ -2,11 +2,11 @@
 
 ghost use Rattle.std.specs.Prelude.{◌≡◌, ◌+◌, ◌<◌, ◌≤◌, ◌++◌, [], if◌then◌else◌, length, OnOk};
 ghost use Rattle.max_cut.specs.Graph.{IsGraph};
-ghost use Rattle.max_cut.specs.EdgeLines.{edge_line, edges_in, ended, is_none, lines_from, row_lines, spaced};
+ghost use Rattle.max_cut.specs.EdgeLines.{edge_line, edges_in, is_none, lines_from, row_lines};
 
 use pair_rows::row_of;
 use std::alloc::AllocError;
-use tokens::{push_number, push_text};
+use tokens::{push_ended, push_spaced};
 
 /// How many weights are other than 0.
 pub(crate) fn count_edges(weights: &[i64]) -> usize
@@ -64,24 +64,7 @@ fn push_edge(out: &mut Vec<u8>, i: usize, j: usize, weight: i64) -> Result<(), A
     requires second { j < 1024 }
     ensures { OnOk result (out.new.items ≡ out.old.items ++ edge_line i j weight) }
 {
-    push_spaced(out, i + 1)?;
-    push_spaced(out, j + 1)?;
+    push_spaced(out, i as u64 + 1)?;
+    push_spaced(out, j as u64 + 1)?;
     push_ended(out, weight)
-}
-
-/// Appends a number and a space.
-pub(crate) fn push_spaced(out: &mut Vec<u8>, number: usize) -> Result<(), AllocError>
-    requires { number ≤ 1024 }
-    ensures { OnOk result (out.new.items ≡ out.old.items ++ spaced number) }
-{
-    push_number(out, number as i64)?;
-    push_text(out, " ")
-}
-
-/// Appends a number and the line's end.
-pub(crate) fn push_ended(out: &mut Vec<u8>, number: i64) -> Result<(), AllocError>
-    ensures { OnOk result (out.new.items ≡ out.old.items ++ ended number) }
-{
-    push_number(out, number)?;
-    push_text(out, "\n")
 }

@@ -6,8 +6,9 @@ ghost use Rattle.max_cut.specs.EdgeLines.{text_of};
 ghost use Rattle.max_cut.specs.Shown.{instance_in};
 
 use crate::instance::MaxCut;
-use crate::lines::{count_edges, push_ended, push_lines, push_spaced};
+use crate::lines::{count_edges, push_lines};
 use std::alloc::{AllocError, Global};
+use tokens::{push_ended, push_spaced};
 
 /// The canonical text, which reads as the instance: the number of vertices and of edges, then a line for
 /// each pair `i < j` of weight other than 0, by `i`, then `j`.
@@ -25,7 +26,7 @@ fn printed(alloc: Global, model: &MaxCut) -> Result<Vec<u8>, AllocError>
     ensures { IfOk result (λ text. text.items ≡ text_of (instance_in model.now)) }
 {
     let mut out = Vec::new(alloc);
-    push_spaced(&mut out, model.vertices)?;
+    push_spaced(&mut out, model.vertices as u64)?;
     push_ended(&mut out, count_edges(model.weights.as_slice()) as i64)?;
     push_lines(&mut out, model.vertices, model.weights.as_slice())?;
     Ok(out)

@@ -1,17 +1,9 @@
 -- The canonical text of an instance.
-use Rattle.std.specs.Prelude.{ℕ, ◌+◌, ℤ, pos, List, [], ◌∷◌, ◌++◌, length}
+use Rattle.std.specs.Prelude.{◌+◌, pos, List, ◌++◌, length, ℕ}
 use Rattle.std.specs.List.{flat_map}
-use Rattle.tokens.specs.Decimal.{decimal_of}
+use Rattle.tokens.specs.Decimal.{ended, spaced}
 use Rattle.qubo.specs.declared.line.Line.{Line}
 use Rattle.qubo.specs.Quadratic.{Quadratic}
-
--- a number and the byte after it
-abbrev pub spaced : ℕ → List ℕ
-spaced n = decimal_of (pos n) ++ 32 ∷ []
-
--- a number and the end of its line
-abbrev pub ended : ℤ → List ℕ
-ended z = decimal_of z ++ 10 ∷ []
 
 -- a line, with variables from 1
 abbrev pub line_text : Line → List ℕ

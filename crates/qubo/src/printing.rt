@@ -1,13 +1,13 @@
-ghost use Rattle.std.specs.Prelude.{◌≡◌, ◌++◌, ◌≤◌, ◌<◌, ◌^◌, length, Ok, IfOk, OnOk};
+ghost use Rattle.std.specs.Prelude.{◌≡◌, ◌++◌, ◌≤◌, ◌^◌, length, Ok, IfOk, OnOk};
 ghost use Rattle.std.specs.List.{flat_map};
-ghost use Rattle.qubo.specs.Printing.{ended, line_text, spaced, text_of};
+ghost use Rattle.qubo.specs.Printing.{line_text, text_of};
 ghost use Rattle.qubo.specs.Reading.{instance_text};
 ghost use Rattle.qubo.specs.Shown.{instance_in};
 
 use crate::instance::Qubo;
 use crate::line::Line;
 use std::alloc::{AllocError, Global};
-use tokens::{push_number, push_text};
+use tokens::{push_ended, push_spaced};
 
 /// Appends a line.
 fn push_line(out: &mut Vec<u8>, line: Line) -> Result<(), AllocError>
@@ -16,23 +16,6 @@ fn push_line(out: &mut Vec<u8>, line: Line) -> Result<(), AllocError>
     push_spaced(out, u64::from(line.first) + 1)?;
     push_spaced(out, u64::from(line.second) + 1)?;
     push_ended(out, line.weight)
-}
-
-/// Appends a number and a space.
-fn push_spaced(out: &mut Vec<u8>, number: u64) -> Result<(), AllocError>
-    requires { number < 2 ^ 63 }
-    ensures { OnOk result (out.new.items ≡ out.old.items ++ spaced number) }
-{
-    push_number(out, number as i64)?;
-    push_text(out, " ")
-}
-
-/// Appends a number and the line's end.
-fn push_ended(out: &mut Vec<u8>, number: i64) -> Result<(), AllocError>
-    ensures { OnOk result (out.new.items ≡ out.old.items ++ ended number) }
-{
-    push_number(out, number)?;
-    push_text(out, "\n")
 }
 
 /// Appends lines.
