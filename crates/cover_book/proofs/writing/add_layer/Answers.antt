@@ -7,7 +7,7 @@ pub add_row-requires-clause-few : goal.add_row-requires-clause-few
 add_row-requires-clause-few g c =
     let less : c.rows.i ≤ length c.args.layer.now = (let t = c.rows-test.true in let e = c.len-count.ensures in omega arith) in
     let few = rows-few (g.M.DpModel.meaning (g.M.DpModel.numbers c.args.model.now)) c.args.k c.rows.i c.args.cover.now c.rows.cover c.args.layer.now less c.rows.invariant in
-    let t = c.if-i-ge4294967295.false in
+    let t = c.if-i-ge-MOST_ROWS.false in
     omega arith
 
 pub rows-preserved : goal.rows-preserved
