@@ -175,8 +175,8 @@ fn whole_outcome(within: i64, best: Option<Solution>) -> Outcome
     }
 }
 
-/// The best solution of all reports and of the board that the records make, or none. Otherwise the answer: the first record that is
-/// refused, why the reports are, or that memory ran out.
+/// The best solution of all reports and of the board that the records make, or none. It fails with the answer: the first
+/// record that is refused, or why the reports are refused, or that memory ran out.
 fn joined_best<M: DpModel>(
     alloc: Global,
     model: M,

@@ -86,7 +86,7 @@ pub fn search_from<M: DpModel, D: Disk + Send, G: Gate + Sync, R: Threads + Wait
     }
 }
 
-/// How a search that is over ended, and its counts, as `conclude` says. The board goes.
+/// How a search that is over ended, and its counts, as `conclude` says. It consumes the board.
 fn concluded<M: DpModel>(
     alloc: Global,
     board: Board<M>,
