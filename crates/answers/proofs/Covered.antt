@@ -34,12 +34,11 @@ use Rattle.problem_names.specs.declared.ModelName.{ModelName}
 use Rattle.problem_names.specs.declared.part.PartNumber.{PartNumber}
 use Rattle.problems.specs.Theories.{theory_of}
 use Rattle.problem_theory.specs.Theory.{Theory}
-use Rattle.solver_report.specs.Report.{assignment_line, count_line, count_lines, distance_told, is_final, line, number_line, outcome_lines, proved_line, report, value_told}
+use Rattle.solver_report.specs.Report.{AreSized, assignment_line, count_line, count_lines, distance_told, is_final, line, number_line, outcome_lines, proved_line, report, value_told}
 use Rattle.solver_report.specs.declared.answer.Answer.TheVariants as answers
 use Rattle.solver_report.specs.declared.answer.Counts.{Counts}
 use Rattle.solver_report.specs.declared.answer.Outcome.{Outcome}
 use Rattle.solver_report.specs.declared.answer.Outcome.TheVariants.{Proved, Infeasible, Stopped}
-use Rattle.answers.specs.Answers.{AreSized}
 use Rattle.answers.specs.Checks.{Checks, ChecksText, IsTrueReport, RefusesCover, RefusesInstance}
 use Rattle.answers.specs.Covers.{IsAccepted, IsCoverText, IsCoveredIn}
 use Rattle.answers.specs.Outcomes.{IsTrueOf}

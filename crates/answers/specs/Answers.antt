@@ -1,5 +1,5 @@
 -- When what a job answers for an instance is right.
-use Rattle.std.specs.Prelude.{◌≡◌, ◌≢◌, ℕ, ◌-◌, ◌^◌, ◌<◌, Bool, true, false, ◌&&◌, ℤ, pos, List, Option, Some, None, is_some, MatchResult}
+use Rattle.std.specs.Prelude.{◌≡◌, ◌≢◌, ℕ, ◌-◌, ◌^◌, Bool, true, false, ◌&&◌, ℤ, pos, List, Option, Some, None, is_some, MatchResult}
 use Rattle.dp_model.specs.Dp.{Dp}
 use Rattle.dp_model.specs.declared.cut_kind.CutKind.TheVariants.{LastExactLayer}
 use Rattle.problem_names.specs.declared.ModelName.{ModelName}
@@ -43,11 +43,6 @@ abbrev pub IsReport : JobSettings → Outcome → Option Counts → Answer → T
 IsReport search outcome counts (answers.Searched told counted) = (told ≡ outcome) × (counted ≡ counts) × ((is_some search.cover_words && is_final outcome) ≡ false)
 IsReport search outcome counts (answers.Covered told counted cover) = (told ≡ outcome) × (counted ≡ counts) × ((is_some search.cover_words && is_final outcome) ≡ true)
 IsReport search outcome counts _ = ⊥
-
--- counts have 64 bits
-abbrev pub AreSized : Option Counts → Type 0
-AreSized None = Unit {0}
-AreSized (Some counts) = (counts.taken < 2 ^ 64) × (counts.finished < 2 ^ 64)
 
 -- a search from the start on, for which nothing is to be trusted
 abbrev pub HasSearchedFromStart : Dp → (List ℕ → Option ℤ) → JobSettings → (BoardState → Type 0) → Outcome → Option Counts → Type 0

@@ -7,7 +7,7 @@ use Rattle.dp_model.specs.Solution.{Solution}
 use Rattle.board_laws.specs.Board.{BoardState, incumbent_value, value_held}
 use Rattle.board_laws.specs.GoodBoard.{IncumbentHolds}
 use Rattle.frontier_parts.specs.Settled.{joined}
-use Rattle.journal_bytes.specs.Bodies.{IncumbentView, RecordView}
+use Rattle.journal_bytes.specs.Bodies.{RecordView}
 use Rattle.journal_bytes.specs.Journal.{JournalView}
 use Rattle.journal_bytes.specs.declared.head.Part.{Part}
 use Rattle.journal_file.specs.declared.error.JournalError.TheVariants as errors
@@ -83,10 +83,6 @@ joined_of b rs = joined (incumbent_value b) (values_told rs)
 -- than the distance
 abbrev pub AreAllHeld : Dp → BoardState → List ReportView → Type 0
 AreAllHeld dp b rs = (i : ℕ) → i < length rs → IsHeldWithin dp b rs i
-
--- a solution that was told of, as it is told
-abbrev pub told_solution : IncumbentView → Solution
-told_solution b = record { decisions = b.decisions; value = b.value }
 
 -- what is told of a whole search with a best solution, or none, within a distance
 abbrev pub whole_outcome : ℤ → Option Solution → Outcome

@@ -14,6 +14,15 @@ use solver_report::{Counts, Outcome, Solution, Stop};
 use solver_words::JobSettings;
 use std::alloc::Global;
 
+/// How a search that is over ended.
+#[derive(Debug, Drop)]
+pub struct Conclusion {
+    /// Its outcome.
+    pub outcome: Outcome,
+    /// Its counts, if they are asked for.
+    pub counts: Option<Counts>,
+}
+
 /// How a search that is over ended, with its counts if they are asked for. The outcome is right in any own words that agree with the dynamic
 /// program. Fails only for want of memory.
 pub fn conclude<M: DpModel>(
@@ -21,15 +30,15 @@ pub fn conclude<M: DpModel>(
     board: &Board<M>,
     model: &M,
     search: JobSettings,
-) -> Result<(Outcome, Option<Counts>), OutOfMemory>
+) -> Result<Conclusion, OutOfMemory>
     requires numbers { board.now.numbers ≡ M.numbers model.now }
     requires over { IsOver (M.meaning (M.numbers model.now)) search board.now.first board.now.board }
-    ensures { (own : List ℕ → Option ℤ) → Agrees (M.meaning (M.numbers model.now)) own → IfOk result (λ told. IsConcluded (M.meaning (M.numbers model.now)) own search board.now.first board.now.board told.0 told.1) }
+    ensures { (own : List ℕ → Option ℤ) → Agrees (M.meaning (M.numbers model.now)) own → IfOk result (λ told. IsConcluded (M.meaning (M.numbers model.now)) own search board.now.first board.now.board told.outcome told.counts) }
 {
     let found = held_solution(alloc, board)?;
     let outcome = outcome_of(board, model, found, search);
     let counts = counts_of(board, search.stats);
-    Ok((outcome, counts))
+    Ok(Conclusion { outcome, counts })
 }
 
 /// A copy of the incumbent. Fails only for want of memory.

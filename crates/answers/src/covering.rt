@@ -4,11 +4,13 @@ ghost use Rattle.bound_cover.specs.Exploring.{HoldsAll};
 ghost use Rattle.cover_text.specs.Outputs.{cover_lines, part_lines, printed_lines};
 ghost use Rattle.problem_names.specs.Parts.{MayBePart};
 ghost use Rattle.problems.specs.Theories.{theory_of};
-ghost use Rattle.answers.specs.Answers.{AreSized, IsReport};
+ghost use Rattle.solver_report.specs.Report.{AreSized};
+ghost use Rattle.answers.specs.Answers.{IsReport};
 ghost use Rattle.answers.specs.Covers.{IsCoverText, IsCoveredIn};
 ghost use Rattle.answers.specs.Outcomes.{IsTrueOf};
 ghost use Rattle.answers.specs.Parts.{own_in, program_in};
 
+use crate::concluding::Conclusion;
 use bound_cover::claim_of;
 use cover_book::settle;
 use cover_pages::CoverBook;
@@ -16,7 +18,7 @@ use cover_text::push_cover;
 use dp_model::{DpModel, OutOfMemory};
 use problem_names::{ModelName, PartNumber};
 use problem_theory::Problem;
-use solver_report::{Answer, Counts, Outcome};
+use solver_report::Answer;
 use solver_words::JobSettings;
 use std::alloc::Global;
 use tokens::{push_number, push_text};
@@ -30,17 +32,6 @@ pub struct Subject {
     pub part: Option<PartNumber>,
 }
 
-/// How a search that is over ended, and what was asked of it.
-#[derive(Debug, Drop)]
-pub struct Conclusion {
-    /// Its outcome.
-    pub outcome: Outcome,
-    /// Its counts, if they are asked for.
-    pub counts: Option<Counts>,
-    /// What was asked of the search.
-    pub search: JobSettings,
-}
-
 /// The answer to a search of an instance, or of a part of it, whose outcome is true: its report, followed by a cover if one is asked for and
 /// the search went to its end. `model` is the instance, and `program` is what was searched. The cover is made of the diagrams in the books,
 /// where they are diagrams of `program`; the answer is right whatever the books hold.
@@ -50,21 +41,18 @@ pub fn told<P: Problem, M: DpModel>(
     model: &P,
     program: &M,
     ended: Conclusion,
+    search: JobSettings,
     books: &[CoverBook],
 ) -> Answer
     requires named { theory_of subject.name ≡ P.theory }
     requires part { MayBePart subject.part }
     requires program { M.meaning (M.numbers program.now) ≡ program_in subject.part (P.theory.program (P.numbers model.now)) }
-    requires true_told { IsTrueOf (M.meaning (M.numbers program.now)) (own_in subject.part (P.theory.own_value (P.numbers model.now))) ended.search.budget ended.outcome }
+    requires true_told { IsTrueOf (M.meaning (M.numbers program.now)) (own_in subject.part (P.theory.own_value (P.numbers model.now))) search.budget ended.outcome }
     requires sized { AreSized ended.counts }
-    ensures report { IsReport ended.search ended.outcome ended.counts result }
+    ensures report { IsReport search ended.outcome ended.counts result }
     ensures covered { IsCoveredIn subject.name subject.part (P.theory.canonical (P.numbers model.now)) result }
 {
-    let Conclusion {
-        outcome,
-        counts,
-        search,
-    } = ended;
+    let Conclusion { outcome, counts } = ended;
     if search.cover_words.is_none() || !outcome.is_final() {
         return Answer::Searched(outcome, counts);
     }

@@ -137,7 +137,7 @@ fn outcome_of(alloc: Global, whole: &CoverText) -> Result<Outcome, OutOfMemory>
     Ok(Outcome::Proved { best, within: 0 })
 }
 
-/// The cover of the text, printed. Fails only for want of memory, or for a bound that a text can not hold.
+/// The cover of the text, printed. Fails only for want of memory, or for a bound that a text cannot hold.
 fn whole_text<P: Problem>(
     alloc: Global,
     model: &P,

@@ -42,8 +42,8 @@ mod settling;
 mod splitting;
 
 pub use checking::check;
-pub use concluding::conclude;
-pub use covering::{Conclusion, Subject, told};
+pub use concluding::{Conclusion, conclude};
+pub use covering::{Subject, told};
 pub use digesting::digest_text;
 pub use inputs::{answer_cover, answer_parts, unread};
 pub use joining::join_texts;

@@ -8,6 +8,7 @@ ghost use Rattle.board_laws.specs.GoodBoard.{IncumbentHolds};
 ghost use Rattle.journal_bytes.specs.Journal.{journal_view};
 ghost use Rattle.journal_bytes.specs.Views.{incumbent_view};
 ghost use Rattle.journal_replay.specs.Following.{incumbent_recorded};
+ghost use Rattle.journal_replay.specs.Replay.{best_of};
 ghost use Rattle.part_reports.specs.Reports.{report_view, AreReports, Refuses};
 ghost use Rattle.part_text.specs.Reports.{SettledView, settled_view};
 ghost use Rattle.problems.specs.Theories.{theory_of};
@@ -17,7 +18,7 @@ ghost use Rattle.answers.specs.Journals.{Attaches, IsUnwritten};
 ghost use Rattle.answers.specs.Kept.{starts_for};
 ghost use Rattle.answers.specs.Opened.{ReadsNamed};
 ghost use Rattle.answers.specs.Offers.{parts_told};
-ghost use Rattle.answers.specs.ReportsJoined.{AreWithin, DistancesGive, DoesNotJoin, HasBest, HasJoined, JoinsIn, JoinsJournal, JoinsReports, LeavesRead, RefusesReports, joined_answer, joined_of, told_solution, whole_outcome};
+ghost use Rattle.answers.specs.ReportsJoined.{AreWithin, DistancesGive, DoesNotJoin, HasBest, HasJoined, JoinsIn, JoinsJournal, JoinsReports, LeavesRead, RefusesReports, joined_answer, joined_of, whole_outcome};
 
 use crate::inputs::{COVER_LIMIT, unread};
 use crate::journaling::{has_starts, open_journal};
@@ -175,8 +176,8 @@ fn whole_outcome(within: i64, best: Option<Solution>) -> Outcome
     }
 }
 
-/// The best solution of all reports and of the board that the records make, or none. Otherwise the answer: the first record that is
-/// refused, why the reports are, or that memory ran out.
+/// The best solution of all reports and of the board that the records make, or none. It fails with the answer: the
+/// first record that is refused, or why the reports are refused, or that memory ran out.
 fn joined_best<M: DpModel>(
     alloc: Global,
     model: M,
@@ -292,7 +293,7 @@ pub(crate) fn parts_of(
 
 /// A solution as it is told.
 fn solution_of(alloc: Global, best: Option<Incumbent>) -> Result<Option<Solution>, OutOfMemory>
-    ensures { IfOk result (λ told. told ≡ option_map told_solution (option_map incumbent_view best)) }
+    ensures { IfOk result (λ told. told ≡ option_map best_of (option_map incumbent_view best)) }
 {
     let Some(best) = best else {
         return Ok(None);

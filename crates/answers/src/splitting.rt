@@ -107,8 +107,7 @@ fn split_model<M: DpModel>(
     }
 }
 
-/// The answer with the bytes of a part whose journal has this record, where the search was split whose journal has the head and ends with the
-/// tail.
+/// The answer with the bytes of a part. Its journal has this record. `head` and `tail` are those of the journal that is split.
 fn part_file(alloc: Global, head: Head, tail: Tail, part: PartNumber, entry: &Record) -> Answer
     requires part { IsPart part }
     requires text { length head.text.items < 2 ^ 32 - 1 }

@@ -32,10 +32,11 @@ use Rattle.search_workers.specs.declared.desk.Desk.{Desk}
 use Rattle.solver_words.specs.declared.job.JobSettings.{JobSettings}
 use Rattle.answers.specs.Offers.{AreWorthAtMost, told_value}
 use Rattle.answers.specs.Outcomes.{HasSearched}
+use Rattle.answers.specs.declared.concluding.Conclusion.{Conclusion}
 use Rattle.commands.specs.Offers.{IsAfterOffers}
 use Rattle.commands.specs.Searches.{IsKeptOn, KeepsSome}
 use Rattle.commands.specs.Starts.{ArePrepared, IsReadyFor}
-use Rattle.commands.proofs.Told.{Told, if-told}
+use Rattle.commands.proofs.Told.{if-told}
 
 -- ---- boards
 
@@ -143,11 +144,11 @@ module _ {D : Type 0} (meaning : List ℤ → Dp) (ns : List ℤ) (before now : 
 
   module _ (on : Ghosts D) (last : D) where
     -- and what is told and kept of that is told and kept of the search before the offers
-    pub searched-after : (own : List ℕ → Option ℤ) (search : JobSettings) (ended : Result Told AllocError)
-        → IfOk ended (λ told. HasSearched (meaning ns) own (λ settings. now.board.first) (IsGood (meaning ns) now.board.first) search (IsKeptOn on (meaning ns) (is_some now.tail) now.made last) told.0 told.1)
-        → IfOk ended (λ told. HasSearched (meaning ns) own (λ settings. before.board.first) (IsGood (meaning ns) before.board.first) search (IsKeptOn on (meaning ns) (is_some before.tail) before.made last) told.0 told.1)
+    pub searched-after : (own : List ℕ → Option ℤ) (search : JobSettings) (ended : Result Conclusion AllocError)
+        → IfOk ended (λ told. HasSearched (meaning ns) own (λ settings. now.board.first) (IsGood (meaning ns) now.board.first) search (IsKeptOn on (meaning ns) (is_some now.tail) now.made last) told.outcome told.counts)
+        → IfOk ended (λ told. HasSearched (meaning ns) own (λ settings. before.board.first) (IsGood (meaning ns) before.board.first) search (IsKeptOn on (meaning ns) (is_some before.tail) before.made last) told.outcome told.counts)
     searched-after own search ended h =
-        let Searched = λ (f : BoardState) (has : Bool) (made : D). IfOk ended (λ told. HasSearched (meaning ns) own (λ settings. f) (IsGood (meaning ns) f) search (IsKeptOn on (meaning ns) has made last) told.0 told.1) in
+        let Searched = λ (f : BoardState) (has : Bool) (made : D). IfOk ended (λ told. HasSearched (meaning ns) own (λ settings. f) (IsGood (meaning ns) f) search (IsKeptOn on (meaning ns) has made last) told.outcome told.counts) in
         subst (λ f. Searched f (is_some before.tail) before.made) same-first
         (subst (λ has. Searched now.board.first has before.made) after.has
         (subst (λ made. Searched now.board.first (is_some now.tail) made) after.made h))
@@ -166,7 +167,7 @@ module _ {D : Type 0} (meaning : List ℤ → Dp) (ns : List ℤ) (before now : 
       keeps = record { tail = now.tail; same = refl; kept = subst (λ n. IsKept on (meaning n) now.board.board now.made now.disk now.tail) same-numbers kept };
     }))
 
-    pub taken-after : (offers : List ReportView) → AreWorthAtMost offers (incumbent_value now.board.board) ⊎ (now.board.board.cause ≡ Some Journal) → (now.board.board.cause ≡ Some Journal → Rose (on.faults now.made) (on.faults last)) → (ended : Result Told AllocError)
-        → IfOk ended (λ told. OptionAtMost (incumbent_value now.board.board) (told_value told.0)) → IfOk ended (λ told. AreWorthAtMost offers (told_value told.0) ⊎ Rose (on.faults before.made) (on.faults last))
-    taken-after offers taken rose ended rises = if-told (λ told. OptionAtMost (incumbent_value now.board.board) (told_value told.0)) (λ told. AreWorthAtMost offers (told_value told.0) ⊎ Rose (on.faults before.made) (on.faults last))
-        (λ told up. ⊎_elim (λ most. inl (worth-then offers (incumbent_value now.board.board) (told_value told.0) most up)) (λ stopped. inr (subst (λ made. Rose (on.faults made) (on.faults last)) after.made (rose stopped))) taken) ended rises
+    pub taken-after : (offers : List ReportView) → AreWorthAtMost offers (incumbent_value now.board.board) ⊎ (now.board.board.cause ≡ Some Journal) → (now.board.board.cause ≡ Some Journal → Rose (on.faults now.made) (on.faults last)) → (ended : Result Conclusion AllocError)
+        → IfOk ended (λ told. OptionAtMost (incumbent_value now.board.board) (told_value told.outcome)) → IfOk ended (λ told. AreWorthAtMost offers (told_value told.outcome) ⊎ Rose (on.faults before.made) (on.faults last))
+    taken-after offers taken rose ended rises = if-told (λ told. OptionAtMost (incumbent_value now.board.board) (told_value told.outcome)) (λ told. AreWorthAtMost offers (told_value told.outcome) ⊎ Rose (on.faults before.made) (on.faults last))
+        (λ told up. ⊎_elim (λ most. inl (worth-then offers (incumbent_value now.board.board) (told_value told.outcome) most up)) (λ stopped. inr (subst (λ made. Rose (on.faults made) (on.faults last)) after.made (rose stopped))) taken) ended rises

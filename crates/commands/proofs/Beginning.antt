@@ -20,11 +20,12 @@ use Rattle.answers.specs.Journals.{HasKept, HasLeftBegun, LeavesBegun, MightBegi
 use Rattle.answers.specs.Kept.{SolvesKept}
 use Rattle.answers.specs.Outcomes.{HasSearched}
 use Rattle.answers.specs.Over.{IsOver}
+use Rattle.answers.specs.declared.concluding.Conclusion.{Conclusion}
 use Rattle.solver_words.specs.declared.job.JobSettings.{JobSettings}
 use Rattle.answers.proofs.Journaled.{ends-begun, left-begun, same-start, stays-attached, still-begins}
 use Rattle.commands.specs.Journals.{EndsKept, HasBegunOn}
 use Rattle.commands.specs.Searches.{IsAnswerTo, IsKeptOn, KeepsSome}
-use Rattle.commands.proofs.Told.{Told, if-told, told-ends}
+use Rattle.commands.proofs.Told.{if-told, told-ends}
 use Rattle.commands.proofs.Searched.{in-words}
 
 module _ {D : Type 0} (on : Ghosts D) (dp : Dp) (own : List ℕ → Option ℤ) (head : HeadView) (search : JobSettings) where
@@ -35,7 +36,7 @@ module _ {D : Type 0} (on : Ghosts D) (dp : Dp) (own : List ℕ → Option ℤ) 
   HasBegunFrom now outcome counts = IsSome (on.start now) × MightBegin on now × HasSearchedFromStart dp own search (HasKept on dp head [] (LeavesBegun on head) now) outcome counts
 
   -- an answer that tells how a search ended does not refuse its width
-  not-width : (now : D) (ended : Result Told AllocError) (answer : Answer) → IsAnswerTo search ended answer → Ends dp search (HasBegunFrom now) answer → EndsKept on dp own head search now answer
+  not-width : (now : D) (ended : Result Conclusion AllocError) (answer : Answer) → IsAnswerTo search ended answer → Ends dp search (HasBegunFrom now) answer → EndsKept on dp own head search now answer
   not-width now (Ok told) answers.Width said h = absurd said
   not-width now (Err e) answers.Width said h = absurd (cc)
   not-width now ended answer said h = h
@@ -66,15 +67,15 @@ module _ {D : Type 0} (on : Ghosts D) (dp : Dp) (own : List ℕ → Option ℤ) 
     left now settings k =
         left-begun on dp k.board made now k.keeps.tail k.keeps.same k.keeps.kept ready.synced ready.counted head near (λ tells. (ready.is_open tells).1) ready.begins ready.since
 
-    pub ends : (now : D) (f : BoardState) → f ≡ first_board dp f.settings → IsGood dp f → (ended : Result Told AllocError) (answer : Answer) → IsAnswerTo search ended answer
-        → IfOk ended (λ told. HasSearched dp own (λ settings. f) (IsGood dp f) search (IsKeptOn on dp true made now) told.0 told.1) → EndsKept on dp own head search now answer
+    pub ends : (now : D) (f : BoardState) → f ≡ first_board dp f.settings → IsGood dp f → (ended : Result Conclusion AllocError) (answer : Answer) → IsAnswerTo search ended answer
+        → IfOk ended (λ told. HasSearched dp own (λ settings. f) (IsGood dp f) search (IsKeptOn on dp true made now) told.outcome told.counts) → EndsKept on dp own head search now answer
     ends now f is good ended answer said h =
         let Keeps = HasKept on dp head [] (LeavesBegun on head) now in
         not-width now ended answer said
         (told-ends dp search (HasBegunFrom now) ended answer said
-        (if-told (λ told. HasSearched dp own (λ settings. f) (IsGood dp f) search (IsKeptOn on dp true made now) told.0 told.1) (λ told. HasBegunFrom now told.0 told.1)
+        (if-told (λ told. HasSearched dp own (λ settings. f) (IsGood dp f) search (IsKeptOn on dp true made now) told.outcome told.counts) (λ told. HasBegunFrom now told.outcome told.counts)
         (λ told has. (
           subst (λ (o : Option FirstSync). IsSome o) (sym (same-begun now has.board has.keeps)) ready.synced,
           might-begin now has.board has.keeps,
-          in-words dp own search f (first_board dp) (Unit {0}) (IsKeptOn on dp true made now) Keeps is (λ _. good) (λ b over k. kept-begun now f b over k) told.0 told.1 has,
+          in-words dp own search f (first_board dp) (Unit {0}) (IsKeptOn on dp true made now) Keeps is (λ _. good) (λ b over k. kept-begun now f b over k) told.outcome told.counts has,
         )) ended h))

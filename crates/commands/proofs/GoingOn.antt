@@ -38,6 +38,7 @@ use Rattle.answers.specs.Offers.{AreWorthAtMost, HasTaken, part_value, told_valu
 use Rattle.answers.specs.Outcomes.{HasSearched}
 use Rattle.answers.specs.PartSearches.{part_outcome}
 use Rattle.answers.specs.Over.{IsOver}
+use Rattle.answers.specs.declared.concluding.Conclusion.{Conclusion}
 use Rattle.solver_words.specs.declared.job.JobSettings.{JobSettings}
 use Rattle.answers.proofs.Journaled.{IsFound, at-first, ends-resumed, failed-later, is-found, left-following, none-following, same-start, stays-attached, still-first}
 use Rattle.commands.specs.Journals.{IsOpened, LeavesOpened, TouchesNothing}
@@ -46,7 +47,6 @@ use Rattle.commands.specs.Starts.{AreAsked, DoesNotTake, GoesOnFrom}
 use Rattle.answers.proofs.Opened.{for-opened, refused-not-disk}
 use Rattle.answers.proofs.PartSearches.{records_searched}
 use Rattle.commands.proofs.Starts.{are-settings}
-use Rattle.commands.proofs.Told.{Told}
 use Rattle.commands.proofs.Searched.{in-words}
 
 -- ---- records and disks
@@ -101,13 +101,13 @@ module _ {D : Type 0} (on : Ghosts D) where
 
   module _ (dp : Dp) (own : List ℕ → Option ℤ) (head : HeadView) (records : List RecordView) (offers : List ReportView) where
     -- what was told of it, by what was asked for
-    pub told-on : (search asked : JobSettings) → search ≡ going_on head asked → (now : D) → (ended : Result Told AllocError) → IfOk ended (λ told. IsToldOn on dp own head records offers search now told.0 told.1)
-        → IfOk (or_memory ended) (λ told. IsToldOn on dp own head records offers (going_on head asked) now told.0 told.1)
-    told-on search asked same now (Ok told) h = subst (λ (s : JobSettings). IsToldOn on dp own head records offers s now told.0 told.1) same h
+    pub told-on : (search asked : JobSettings) → search ≡ going_on head asked → (now : D) → (ended : Result Conclusion AllocError) → IfOk ended (λ told. IsToldOn on dp own head records offers search now told.outcome told.counts)
+        → IfOk (or_memory ended) (λ told. IsToldOn on dp own head records offers (going_on head asked) now told.outcome told.counts)
+    told-on search asked same now (Ok told) h = subst (λ (s : JobSettings). IsToldOn on dp own head records offers s now told.outcome told.counts) same h
     told-on search asked same now (Err e) h = tt
 
     -- where nothing was told, for want of memory
-    pub or-refused : (why : RecordsView) (asked : JobSettings) (before now : D) (ended : Result Told AllocError) → IfErr (or_memory ended) (λ answer. DoesNotTake dp (going_on head asked) why offers answer × TouchesNothing before now answer)
+    pub or-refused : (why : RecordsView) (asked : JobSettings) (before now : D) (ended : Result Conclusion AllocError) → IfErr (or_memory ended) (λ answer. DoesNotTake dp (going_on head asked) why offers answer × TouchesNothing before now answer)
     or-refused why asked before now (Ok told) = tt
     or-refused why asked before now (Err e) = (tt, tt)
 
@@ -135,14 +135,14 @@ module _ {D : Type 0} (on : Ghosts D) where
       disk-failed : (now : D) (b : BoardState) → IsKeptOn on dp true made now b → Rose (on.faults made) (on.faults now) → HasDiskFailed on now
       disk-failed now b k rose = failed-later on (on.start made) (on.start now) (on.faults made) (on.faults now) (same-start on dp b made now k.tail k.same k.kept opened.synced) opened.synced opened.counted rose
 
-      pub gone-on : (now : D) (f : BoardState) → AreAccepted dp records → AreTested dp offers → f ≡ restored_from f.settings (replay_of dp records) → (AreSound dp head.within records → IsGood dp f) → (ended : Result Told AllocError)
-          → IfOk ended (λ told. AreWorthAtMost offers (told_value told.0) ⊎ Rose (on.faults made) (on.faults now))
-          → IfOk ended (λ told. HasSearched dp own (λ settings. f) (IsGood dp f) search (IsKeptOn on dp true made now) told.0 told.1) → IfOk ended (λ told. IsToldOn on dp own head records offers search now told.0 told.1)
+      pub gone-on : (now : D) (f : BoardState) → AreAccepted dp records → AreTested dp offers → f ≡ restored_from f.settings (replay_of dp records) → (AreSound dp head.within records → IsGood dp f) → (ended : Result Conclusion AllocError)
+          → IfOk ended (λ told. AreWorthAtMost offers (told_value told.outcome) ⊎ Rose (on.faults made) (on.faults now))
+          → IfOk ended (λ told. HasSearched dp own (λ settings. f) (IsGood dp f) search (IsKeptOn on dp true made now) told.outcome told.counts) → IfOk ended (λ told. IsToldOn on dp own head records offers search now told.outcome told.counts)
       gone-on now f accepted tested is good (Ok told) taken h = (
         accepted,
         record { tested = tested; taken = ⊎_elim (λ most. inl most) (λ rose. inr (disk-failed now h.board h.keeps rose)) taken },
         in-words dp own search f (λ settings. restored_from settings (replay_of dp records)) (AreSound dp head.within records) (IsKeptOn on dp true made now) (HasKept on dp head records (LeavesResumed on head records) now) is good
-            (λ b over k. kept-resumed now f b over k) told.0 told.1 h,
+            (λ b over k. kept-resumed now f b over k) told.outcome told.counts h,
       )
       gone-on now f accepted tested is good (Err e) taken h = tt
 
@@ -166,35 +166,35 @@ module _ {D : Type 0} (on : Ghosts D) where
 
   -- what was told of a search that goes on, or why it does not
   module _ (dp : Dp) (laws : IsLawful dp) (own : List ℕ → Option ℤ) (agrees : Agrees dp own) (head : HeadView) (records : RecordsView) (offers : List ReportView) (asked : JobSettings) (may : MaySearch (going_on head asked)) (plain : asked.cover_words ≡ None) (before now : D) where
-    abbrev Told-by : Result Told Answer → Type 0
-    Told-by ended = IfOk ended (λ told. IsToldOn on dp own head records.records offers (going_on head asked) now told.0 told.1)
+    abbrev Told-by : Result Conclusion Answer → Type 0
+    Told-by ended = IfOk ended (λ told. IsToldOn on dp own head records.records offers (going_on head asked) now told.outcome told.counts)
 
-    abbrev Refused-by : Result Told Answer → Type 0
+    abbrev Refused-by : Result Conclusion Answer → Type 0
     Refused-by ended = IfErr ended (λ answer. DoesNotTake dp (going_on head asked) records offers answer × TouchesNothing before now answer)
 
-    in-whole : (ended : Result Told Answer) → Told-by ended → Refused-by ended → GoesOn on dp own head records.records records.first offers asked now (report_in None head.within ended)
-    in-whole (Ok told) h why = (h, coverless asked.cover_words (is_final told.0) plain)
+    in-whole : (ended : Result Conclusion Answer) → Told-by ended → Refused-by ended → GoesOn on dp own head records.records records.first offers asked now (report_in None head.within ended)
+    in-whole (Ok told) h why = (h, coverless asked.cover_words (is_final told.outcome) plain)
     in-whole (Err answer) h why = told-why dp own head records offers asked now answer why.0
 
-    in-part : (part : Part) (starts : List (List ℕ)) (ended : Result Told Answer) → Told-by ended → Refused-by ended
+    in-part : (part : Part) (starts : List (List ℕ)) (ended : Result Conclusion Answer) → Told-by ended → Refused-by ended
         → GoesOnPart on dp own part starts head records.records records.first offers asked now (report_in (Some part) head.within ended)
     in-part part starts (Ok told) h why = (
       refl,
       (
         h.0,
-        subst (HasTaken (HasDiskFailed on now) dp offers) (sym (same-value head.within told.0)) h.1,
-        records_searched dp laws own agrees (going_on head asked) may records.records h.0 starts (AreSound dp head.within records.records) (HasKept on dp head records.records (LeavesResumed on head records.records) now) told.0 told.1 h.2,
+        subst (HasTaken (HasDiskFailed on now) dp offers) (sym (same-value head.within told.outcome)) h.1,
+        records_searched dp laws own agrees (going_on head asked) may records.records h.0 starts (AreSound dp head.within records.records) (HasKept on dp head records.records (LeavesResumed on head records.records) now) told.outcome told.counts h.2,
       ),
     )
     in-part part starts (Err answer) h why = told-why-part dp own head records offers asked now part starts answer why.0
 
-    with-starts : (part : Part) (ended : Result Told Answer) (starts : Option (List (List ℕ))) → is_some starts ≡ true → Told-by ended → Refused-by ended
+    with-starts : (part : Part) (ended : Result Conclusion Answer) (starts : Option (List (List ℕ))) → is_some starts ≡ true → Told-by ended → Refused-by ended
         → ResumesPart on dp own part starts head records.records records.first offers asked now (report_in (Some part) head.within ended)
     with-starts part ended None there told why = absurd (cc)
     with-starts part ended (Some starts) there told why = in-part part starts ended told why
 
     -- the answer to it
-    pub resumes-in : (part : Option Part) (ended : Result Told Answer) → is_some (starts_for part records.records) ≡ true → Told-by ended → Refused-by ended
+    pub resumes-in : (part : Option Part) (ended : Result Conclusion Answer) → is_some (starts_for part records.records) ≡ true → Told-by ended → Refused-by ended
         → ResumesIn on dp own part head records.records records.first offers asked now (report_in part head.within ended)
     resumes-in None ended there told why = in-whole ended told why
     resumes-in (Some part) ended there told why = with-starts part ended (starts_in records.records) there told why

@@ -15,10 +15,11 @@ use Rattle.board.specs.View.{BoardView}
 use Rattle.board.specs.declared.tag.BoardTag.{BoardTag}
 use Rattle.answers.specs.Outcomes.{HasSearched, IsConcluded}
 use Rattle.answers.specs.Over.{IsOver}
+use Rattle.answers.specs.declared.concluding.Conclusion.{Conclusion}
 use Rattle.solver_words.specs.declared.job.JobSettings.{JobSettings}
 use Rattle.commands.specs.Searches.{HasExplored, IsKeptOn}
 use Rattle.commands.specs.Starts.{AreAsked, IsReadyFor}
-use Rattle.commands.proofs.Told.{Told, if-told}
+use Rattle.commands.proofs.Told.{if-told}
 
 -- a run from the first board to the one that a search goes on from, and then some rounds
 is_over : (dp : Dp) (search : JobSettings) (first start b : BoardState) → AreAsked dp search start.settings → full_slots start.slots ≡ [] → b.settings ≡ start.settings → IsLater dp first start → IsLater dp start b → NoRoundFollows b → (IsGood dp first → IsComplete dp b)
@@ -48,15 +49,15 @@ module _ {D : Type 0} (on : Ghosts D) (dp : Dp) (search : JobSettings) (first : 
       (is_over dp search first.board.first first.board.board b.board ready.prepared.asked ready.idle (ap (λ (t : BoardTag). t.settings) e.tag) ready.later e.later e.ended e.complete)
 
   -- what is told of it is told of a search
-  pub searched : (own : List ℕ → Option ℤ) → IsOver dp search b.first b.board → (ended : Result Told AllocError) → IfOk ended (λ told. IsConcluded dp own search b.first b.board told.0 told.1)
-      → IfOk ended (λ told. HasSearched dp own (λ settings. first.board.first) (IsGood dp first.board.first) search (IsKeptOn on dp (is_some first.tail) first.made now) told.0 told.1)
-  searched own over ended h = if-told (λ told. IsConcluded dp own search b.first b.board told.0 told.1)
-      (λ told. HasSearched dp own (λ settings. first.board.first) (IsGood dp first.board.first) search (IsKeptOn on dp (is_some first.tail) first.made now) told.0 told.1)
+  pub searched : (own : List ℕ → Option ℤ) → IsOver dp search b.first b.board → (ended : Result Conclusion AllocError) → IfOk ended (λ told. IsConcluded dp own search b.first b.board told.outcome told.counts)
+      → IfOk ended (λ told. HasSearched dp own (λ settings. first.board.first) (IsGood dp first.board.first) search (IsKeptOn on dp (is_some first.tail) first.made now) told.outcome told.counts)
+  searched own over ended h = if-told (λ told. IsConcluded dp own search b.first b.board told.outcome told.counts)
+      (λ told. HasSearched dp own (λ settings. first.board.first) (IsGood dp first.board.first) search (IsKeptOn on dp (is_some first.tail) first.made now) told.outcome told.counts)
       (λ told concluded. record {
         settings = b.board.settings;
         board = b.board;
         over = subst (λ (f : BoardState). IsOver dp search f b.board) same-first over;
-        concluded = subst (λ (f : BoardState). IsConcluded dp own search f b.board told.0 told.1) same-first concluded;
+        concluded = subst (λ (f : BoardState). IsConcluded dp own search f b.board told.outcome told.counts) same-first concluded;
         trusted = λ good. good;
         keeps = e.keeps;
       }) ended h

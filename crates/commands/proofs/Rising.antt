@@ -26,8 +26,9 @@ use Rattle.solver_report.specs.declared.answer.Outcome.TheVariants.{Proved, Infe
 use Rattle.solver_words.specs.declared.job.JobSettings.{JobSettings}
 use Rattle.answers.specs.Offers.{told_value}
 use Rattle.answers.specs.Outcomes.{IsConcluded, IsTold}
+use Rattle.answers.specs.declared.concluding.Conclusion.{Conclusion}
 use Rattle.commands.specs.Searches.{HasExplored, IsKeptOn}
-use Rattle.commands.proofs.Told.{Told, if-told}
+use Rattle.commands.proofs.Told.{if-told}
 
 -- the value that is told is that of the incumbent
 told-held : (dp : Dp) (own : List ℕ → Option ℤ) (b : BoardState) (outcome : Outcome) → IsTold dp own b outcome → told_value outcome ≡ incumbent_value b
@@ -76,10 +77,10 @@ module _ {D : Type 0} (on : Ghosts D) (dp : Dp) where
 
   module _ (first : KeptView D) (now : D) (b : BoardView) (e : HasExplored on dp first now b) where
     -- what is told is worth at least the incumbent that a search goes on from
-    pub rises : (own : List ℕ → Option ℤ) (search : JobSettings) (ended : Result Told AllocError) → IfOk ended (λ told. IsConcluded dp own search b.first b.board told.0 told.1)
-        → IfOk ended (λ told. OptionAtMost (incumbent_value first.board.board) (told_value told.0))
-    rises own search ended h = if-told (λ told. IsConcluded dp own search b.first b.board told.0 told.1) (λ told. OptionAtMost (incumbent_value first.board.board) (told_value told.0))
-        (λ told c. subst (OptionAtMost (incumbent_value first.board.board)) (sym (told-held dp own b.board told.0 c.told)) (run-follows dp first.board.board e.later.steps b.board e.later.run).better) ended h
+    pub rises : (own : List ℕ → Option ℤ) (search : JobSettings) (ended : Result Conclusion AllocError) → IfOk ended (λ told. IsConcluded dp own search b.first b.board told.outcome told.counts)
+        → IfOk ended (λ told. OptionAtMost (incumbent_value first.board.board) (told_value told.outcome))
+    rises own search ended h = if-told (λ told. IsConcluded dp own search b.first b.board told.outcome told.counts) (λ told. OptionAtMost (incumbent_value first.board.board) (told_value told.outcome))
+        (λ told c. subst (OptionAtMost (incumbent_value first.board.board)) (sym (told-held dp own b.board told.outcome c.told)) (run-follows dp first.board.board e.later.steps b.board e.later.run).better) ended h
 
     pub still-failed : first.board.board.cause ≡ Some Journal → Rose (on.faults first.made) (on.faults now)
     still-failed failed = has-failed (is_some first.tail) first.made now b.board e.keeps (stays-failed dp first.board.board e.later.steps b.board e.later.run failed)

@@ -23,6 +23,7 @@ use Rattle.answers.specs.Kept.{searched_part}
 use Rattle.answers.specs.Offers.{HasTaken, told_value}
 use Rattle.answers.specs.Outcomes.{HasSearched}
 use Rattle.answers.specs.PartSearches.{part_outcome}
+use Rattle.answers.specs.declared.concluding.Conclusion.{Conclusion}
 use Rattle.solver_words.specs.declared.job.JobSettings.{JobSettings}
 use Rattle.solver_report.specs.declared.answer.Answer.{Answer}
 use Rattle.solver_report.specs.declared.answer.Answer.TheVariants as answers
@@ -58,12 +59,12 @@ module _ {D : Type 0} (on : Ghosts D) where
       (HasKept on dp head records (LeavesResumed on head records) now) outcome counts
 
 -- the answer to how a search ended: its report, or that memory ran out
-abbrev pub IsAnswerTo : JobSettings → Result (Outcome × Option Counts) AllocError → Answer → Type 0
-IsAnswerTo search (Ok told) answer = IsReport search told.0 told.1 answer
+abbrev pub IsAnswerTo : JobSettings → Result Conclusion AllocError → Answer → Type 0
+IsAnswerTo search (Ok told) answer = IsReport search told.outcome told.counts answer
 IsAnswerTo search (Err e) answer = answer ≡ answers.OutOfMemory
 
 -- what was told of a search, or that memory ran out
-abbrev pub or_memory : Result (Outcome × Option Counts) AllocError → Result (Outcome × Option Counts) Answer
+abbrev pub or_memory : Result Conclusion AllocError → Result Conclusion Answer
 or_memory (Ok told) = Ok told
 or_memory (Err e) = Err answers.OutOfMemory
 
@@ -73,6 +74,6 @@ told_in None within outcome counts = answers.Searched outcome counts
 told_in (Some part) within outcome counts = answers.PartSearched (searched_part part) (part_outcome within outcome) counts
 
 -- or the answer where nothing was told
-abbrev pub report_in : Option Part → ℤ → Result (Outcome × Option Counts) Answer → Answer
-report_in part within (Ok told) = told_in part within told.0 told.1
+abbrev pub report_in : Option Part → ℤ → Result Conclusion Answer → Answer
+report_in part within (Ok told) = told_in part within told.outcome told.counts
 report_in part within (Err answer) = answer

@@ -20,7 +20,7 @@ pub fn book_for<M: DpModel>(alloc: Global, model: &M, search: JobSettings) -> Op
     Some(CoverBook::new(alloc, model.words(), limit))
 }
 
-/// The books of the desks, in order. The desks go. Fails only for want of memory.
+/// The books of the desks, in order. It consumes the desks. Fails only for want of memory.
 pub fn books_of(alloc: Global, desks: Vec<Desk>) -> Result<Vec<CoverBook>, OutOfMemory>
     ensures { IfOk result (λ books. books.items ≡ books_in desks.items) }
 {

@@ -3,7 +3,7 @@
 ghost use Rattle.std.specs.Prelude.{◌≡◌, IfOk};
 ghost use Rattle.problem_names.specs.Parts.{MayBePart};
 ghost use Rattle.problems.specs.Theories.{theory_of};
-ghost use Rattle.answers.specs.Answers.{AreSized};
+ghost use Rattle.solver_report.specs.Report.{AreSized};
 ghost use Rattle.answers.specs.Covers.{IsCoveredIn};
 ghost use Rattle.answers.specs.Outcomes.{IsTrueOf};
 ghost use Rattle.answers.specs.Parts.{own_in, program_in};
@@ -15,7 +15,7 @@ use answers::{Conclusion, Subject, told};
 use dp_model::{DpModel, OutOfMemory};
 use problem_theory::Problem;
 use search_workers::Desk;
-use solver_report::{Answer, Counts, Outcome};
+use solver_report::Answer;
 use solver_words::JobSettings;
 use std::alloc::Global;
 
@@ -27,28 +27,31 @@ pub fn answer_of<P: Problem, M: DpModel>(
     subject: Subject,
     model: &P,
     program: &M,
-    ended: Result<(Outcome, Option<Counts>), OutOfMemory>,
+    ended: Result<Conclusion, OutOfMemory>,
     search: JobSettings,
     desks: Vec<Desk>,
 ) -> Answer
     requires named { theory_of subject.name ≡ P.theory }
     requires part { MayBePart subject.part }
     requires program { M.meaning (M.numbers program.now) ≡ program_in subject.part (P.theory.program (P.numbers model.now)) }
-    requires true_told { IfOk ended (λ told. IsTrueOf (M.meaning (M.numbers program.now)) (own_in subject.part (P.theory.own_value (P.numbers model.now))) search.budget told.0) }
-    requires sized { IfOk ended (λ told. AreSized told.1) }
+    requires true_told { IfOk ended (λ told. IsTrueOf (M.meaning (M.numbers program.now)) (own_in subject.part (P.theory.own_value (P.numbers model.now))) search.budget told.outcome) }
+    requires sized { IfOk ended (λ told. AreSized told.counts) }
     requires books { HaveBooksOf (M.meaning (M.numbers program.now)) desks.items }
     ensures answers { IsAnswerTo search ended result }
     ensures covered { IsCoveredIn subject.name subject.part (P.theory.canonical (P.numbers model.now)) result }
 {
     match ended {
-        Ok((outcome, counts)) => {
-            let ended = Conclusion {
-                outcome,
-                counts,
-                search,
-            };
+        Ok(ended) => {
             let books = books_of(alloc, desks).unwrap_or(Vec::new(alloc));
-            told(alloc, subject, model, program, ended, books.as_slice())
+            told(
+                alloc,
+                subject,
+                model,
+                program,
+                ended,
+                search,
+                books.as_slice(),
+            )
         }
         Err(_) => Answer::OutOfMemory,
     }

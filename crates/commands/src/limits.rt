@@ -1,2 +1,2 @@
-/// After how many finished subproblems a snapshot is due in a journal.
+/// A journal gets a snapshot after this many finished subproblems.
 pub(crate) const SNAPSHOT_EVERY: u32 = 1024;

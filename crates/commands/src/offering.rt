@@ -16,12 +16,12 @@ ghost use Rattle.commands.specs.Starts.{IsReadyFor};
 
 use crate::runner::Runner;
 use crate::searching::search_from;
+use answers::Conclusion;
 use disk::Disk;
 use dp_model::{DpModel, OutOfMemory};
 use kept_board::{Kept, KeptError};
 use part_reports::PartReport;
 use search_workers::{Desk, Gate};
-use solver_report::{Counts, Outcome};
 use solver_words::JobSettings;
 use std::alloc::Global;
 use std::sync::Wait;
@@ -90,13 +90,13 @@ pub fn search_offered<M: DpModel, D: Disk + Send, G: Gate + Sync, R: Threads + W
     desks: &mut Vec<Desk>,
     model: &M,
     search: JobSettings,
-) -> (Result<(Outcome, Option<Counts>), OutOfMemory>, D)
+) -> (Result<Conclusion, OutOfMemory>, D)
     requires numbers { kept.board.numbers ≡ M.numbers model.now }
     requires ready { IsReadyFor (M.meaning (M.numbers model.now)) search kept.board desks.old }
     requires going { kept.board.board.cause ≢ Some Journal }
     requires tested { AreTested (M.meaning (M.numbers model.now)) (map report_view offers.now) }
-    ensures searched { (own : List ℕ → Option ℤ) → Agrees (M.meaning (M.numbers model.now)) own → IfOk result.0 (λ told. HasSearched (M.meaning (M.numbers model.now)) own (λ _. kept.board.first) (IsGood (M.meaning (M.numbers model.now)) kept.board.first) search (IsKeptOn D.Disk (M.meaning (M.numbers model.now)) (is_some kept.tail) kept.made result.1) told.0 told.1) }
-    ensures taken { (own : List ℕ → Option ℤ) → Agrees (M.meaning (M.numbers model.now)) own → IfOk result.0 (λ told. AreWorthAtMost (map report_view offers.now) (told_value told.0) ⊎ Rose (D.faults kept.made) (D.faults result.1)) }
+    ensures searched { (own : List ℕ → Option ℤ) → Agrees (M.meaning (M.numbers model.now)) own → IfOk result.0 (λ told. HasSearched (M.meaning (M.numbers model.now)) own (λ _. kept.board.first) (IsGood (M.meaning (M.numbers model.now)) kept.board.first) search (IsKeptOn D.Disk (M.meaning (M.numbers model.now)) (is_some kept.tail) kept.made result.1) told.outcome told.counts) }
+    ensures taken { (own : List ℕ → Option ℤ) → Agrees (M.meaning (M.numbers model.now)) own → IfOk result.0 (λ told. AreWorthAtMost (map report_view offers.now) (told_value told.outcome) ⊎ Rose (D.faults kept.made) (D.faults result.1)) }
     ensures keeps { KeepsSome D.Disk (M.meaning (M.numbers model.now)) (is_some kept.tail) kept.made result.1 kept.board.board.settings }
 {
     match offer_all(run.alloc, &mut kept, offers) {

@@ -16,7 +16,7 @@ use crate::limits::SNAPSHOT_EVERY;
 use crate::offering::search_offered;
 use crate::runner::Runner;
 use crate::starting::{Start, go_on};
-use answers::{has_starts, open_journal, part_outcome, searched_part};
+use answers::{Conclusion, has_starts, open_journal, part_outcome, searched_part};
 use disk::Disk;
 use dp_model::{DpModel, OutOfMemory};
 use journal_bytes::{Head, Records};
@@ -26,7 +26,7 @@ use part_reports::{PartReport, first_untested};
 use problem_theory::{Problem, ReadInstanceError};
 use problems::by_name;
 use search_workers::Gate;
-use solver_report::{Answer, Counts, Outcome, ReportRefusal};
+use solver_report::{Answer, ReportRefusal};
 use solver_words::JobSettings;
 use std::alloc::Global;
 use std::sync::Wait;
@@ -159,12 +159,12 @@ fn resume_search<P: Problem, D: Disk + Send, G: Gate + Sync, R: Threads + Wait +
     tail: Tail,
     asked: Asked<'_>,
     disk: D,
-) -> (Result<(Outcome, Option<Counts>), Answer>, D)
+) -> (Result<Conclusion, Answer>, D)
     requires may { MaySearch asked.search }
     requires distance { IsDistance head.now.within }
     requires within { records.now.within ≡ head.now.within }
     requires opened { IsOpened D.Disk (head_view tail.version head.now) records.now.records disk tail }
-    ensures told { IfOk result.0 (λ told. IsToldOn D.Disk (P.meaning (P.numbers model)) (P.theory.own_value (P.numbers model)) (head_view tail.version head.now) records.now.records (map report_view asked.entry.offers.now) (going_on (head_view tail.version head.now) asked.entry.search) result.1 told.0 told.1) }
+    ensures told { IfOk result.0 (λ told. IsToldOn D.Disk (P.meaning (P.numbers model)) (P.theory.own_value (P.numbers model)) (head_view tail.version head.now) records.now.records (map report_view asked.entry.offers.now) (going_on (head_view tail.version head.now) asked.entry.search) result.1 told.outcome told.counts) }
     ensures refused { IfErr result.0 (λ answer. DoesNotTake (P.meaning (P.numbers model)) (going_on (head_view tail.version head.now) asked.entry.search) records.now (map report_view asked.entry.offers.now) answer × TouchesNothing disk result.1 answer) }
     ensures left { LeavesOpened D.Disk (MayBeAdded (P.meaning (P.numbers model)) head.now.within records.now.records) (head_view tail.version head.now) records.now.records disk result.1 }
 {
@@ -224,9 +224,7 @@ fn going_on(head: &Head, search: JobSettings) -> JobSettings
 }
 
 /// How a search ended, or the answer that memory ran out.
-fn or_memory(
-    ended: Result<(Outcome, Option<Counts>), OutOfMemory>,
-) -> Result<(Outcome, Option<Counts>), Answer>
+fn or_memory(ended: Result<Conclusion, OutOfMemory>) -> Result<Conclusion, Answer>
     ensures { result ≡ or_memory ended }
 {
     match ended {
@@ -236,10 +234,10 @@ fn or_memory(
 }
 
 /// The answer to how a search without a cover ended: its report, or that of the part of which the journal is.
-fn report_in(head: &Head, ended: Result<(Outcome, Option<Counts>), Answer>) -> Answer
+fn report_in(head: &Head, ended: Result<Conclusion, Answer>) -> Answer
     ensures { result ≡ report_in head.now.part head.now.within ended }
 {
-    let (outcome, counts) = match ended {
+    let Conclusion { outcome, counts } = match ended {
         Ok(told) => told,
         Err(answer) => return answer,
     };

@@ -26,8 +26,10 @@ pub struct Ended<D> {
 /// report, cover. A search that goes on from a journal takes these: words, attaching, reopening, instance, width, replay, search, report.
 /// With `--incumbent` the input is read after the words, and the solutions of its reports are tested and offered after the replay. `split`
 /// and `join --journal` read the journal as `resume` does, the latter after its input. The first step that fails decides the answer. The
-/// disk is touched only if a journal is asked for. Each worker passes the gate after each of its
-/// steps. `run` may wait: for its workers, and they for one another.
+/// disk is touched only if a journal is asked for. Each worker passes the gate after each of its steps. `run` may wait for its workers, and
+/// they may wait for one another.
+///
+/// `solver_report::exit_status` has a constant for each status.
 ///
 /// | Status | Meaning |
 /// |---|---|

@@ -16,13 +16,12 @@ ghost use Rattle.commands.specs.Searches.{HasExplored, IsKeptOn, KeepsSome};
 ghost use Rattle.commands.specs.Starts.{IsReadyFor};
 
 use crate::runner::Runner;
-use answers::conclude;
+use answers::{Conclusion, conclude};
 use board::Board;
 use disk::Disk;
 use dp_model::{DpModel, OutOfMemory};
 use kept_board::Kept;
 use search_workers::{Desk, Gate, explore_together};
-use solver_report::{Counts, Outcome};
 use solver_words::JobSettings;
 use std::alloc::Global;
 use std::sync::Wait;
@@ -69,12 +68,12 @@ pub fn search_from<M: DpModel, D: Disk + Send, G: Gate + Sync, R: Threads + Wait
     desks: &mut Vec<Desk>,
     model: &M,
     search: JobSettings,
-) -> (Result<(Outcome, Option<Counts>), OutOfMemory>, D)
+) -> (Result<Conclusion, OutOfMemory>, D)
     requires numbers { kept.board.numbers ≡ M.numbers model.now }
     requires ready { IsReadyFor (M.meaning (M.numbers model.now)) search kept.board desks.old }
-    ensures searched { (own : List ℕ → Option ℤ) → Agrees (M.meaning (M.numbers model.now)) own → IfOk result.0 (λ told. HasSearched (M.meaning (M.numbers model.now)) own (λ _. kept.board.first) (IsGood (M.meaning (M.numbers model.now)) kept.board.first) search (IsKeptOn D.Disk (M.meaning (M.numbers model.now)) (is_some kept.tail) kept.made result.1) told.0 told.1) }
+    ensures searched { (own : List ℕ → Option ℤ) → Agrees (M.meaning (M.numbers model.now)) own → IfOk result.0 (λ told. HasSearched (M.meaning (M.numbers model.now)) own (λ _. kept.board.first) (IsGood (M.meaning (M.numbers model.now)) kept.board.first) search (IsKeptOn D.Disk (M.meaning (M.numbers model.now)) (is_some kept.tail) kept.made result.1) told.outcome told.counts) }
     // A run never lowers the incumbent, and never ends the failure of a journal.
-    ensures rises { (own : List ℕ → Option ℤ) → Agrees (M.meaning (M.numbers model.now)) own → IfOk result.0 (λ told. OptionAtMost (incumbent_value kept.board.board) (told_value told.0)) }
+    ensures rises { (own : List ℕ → Option ℤ) → Agrees (M.meaning (M.numbers model.now)) own → IfOk result.0 (λ told. OptionAtMost (incumbent_value kept.board.board) (told_value told.outcome)) }
     ensures failed { kept.board.board.cause ≡ Some Journal → Rose (D.faults kept.made) (D.faults result.1) }
     ensures keeps { KeepsSome D.Disk (M.meaning (M.numbers model.now)) (is_some kept.tail) kept.made result.1 kept.board.board.settings }
     ensures prepared { All (IsPreparedDesk (M.meaning (M.numbers model.now)) kept.board.board.settings.width) desks.new.items }
@@ -86,16 +85,16 @@ pub fn search_from<M: DpModel, D: Disk + Send, G: Gate + Sync, R: Threads + Wait
     }
 }
 
-/// How a search that is over ended, and its counts, as `conclude` says. The board goes.
+/// How a search that is over ended, and its counts, as `conclude` says. It consumes the board.
 fn concluded<M: DpModel>(
     alloc: Global,
     board: Board<M>,
     model: &M,
     search: JobSettings,
-) -> Result<(Outcome, Option<Counts>), OutOfMemory>
+) -> Result<Conclusion, OutOfMemory>
     requires numbers { board.numbers ≡ M.numbers model.now }
     requires over { IsOver (M.meaning (M.numbers model.now)) search board.first board.board }
-    ensures { (own : List ℕ → Option ℤ) → Agrees (M.meaning (M.numbers model.now)) own → IfOk result (λ told. IsConcluded (M.meaning (M.numbers model.now)) own search board.first board.board told.0 told.1) }
+    ensures { (own : List ℕ → Option ℤ) → Agrees (M.meaning (M.numbers model.now)) own → IfOk result (λ told. IsConcluded (M.meaning (M.numbers model.now)) own search board.first board.board told.outcome told.counts) }
 {
     conclude(alloc, &board, model, search)
 }

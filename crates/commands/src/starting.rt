@@ -93,7 +93,7 @@ pub fn go_on<M: DpModel>(
     }
 }
 
-/// The settings of the search of the instance, and a desk for each worker, or the answer where there are none.
+/// The settings of the search of the instance, and a desk for each worker. It is refused as `begin_search` says.
 fn prepared<M: DpModel>(
     alloc: Global,
     model: &M,
@@ -111,7 +111,7 @@ fn prepared<M: DpModel>(
     }
 }
 
-/// The width of a search for which this one or none is given.
+/// The width of a search: the given one, or the default width if none is given.
 fn width_for<M: DpModel>(model: &M, given: Option<u32>) -> u32
     ensures { IsAskedWidth (M.meaning (M.numbers model.now)) given result }
 {

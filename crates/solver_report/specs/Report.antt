@@ -1,5 +1,5 @@
 -- The printed texts.
-use Rattle.std.specs.Prelude.{ℕ, ℤ, pos, int_lt, codes, Bool, true, false, cond, List, [], ◌∷◌, ◌++◌, Option, Some, None, Vec}
+use Rattle.std.specs.Prelude.{ℕ, ◌^◌, ◌<◌, ℤ, pos, int_lt, codes, Bool, true, false, cond, List, [], ◌∷◌, ◌++◌, Option, Some, None, Vec}
 use Rattle.std.specs.List.{flat_map}
 use Rattle.std.specs.Fmt.{decimal}
 use Rattle.std.specs.declared.alloc.Global.{Global}
@@ -154,6 +154,11 @@ distance_told (Stopped stop incumbent bound) = pos 0
 -- a word and a count on a line
 abbrev pub count_line : List ℕ → ℕ → List ℕ
 count_line word n = line (word ++ 32 ∷ decimal n)
+
+-- counts have 64 bits
+abbrev pub AreSized : Option Counts → Type 0
+AreSized None = Unit {0}
+AreSized (Some counts) = (counts.taken < 2 ^ 64) × (counts.finished < 2 ^ 64)
 
 -- the counts, where they are asked for
 abbrev pub count_lines : Option Counts → List ℕ

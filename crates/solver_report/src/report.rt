@@ -7,6 +7,10 @@ ghost use Rattle.solver_report.specs.Report.{report, status_of, outcome_status, 
 use crate::answer::{
     Answer, Counts, JoinRefusal, Outcome, PartOutcome, ReportRefusal, SearchedPart, Solution, Stop,
 };
+use crate::exit_status::{
+    DISK_FAILED, DONE, INFEASIBLE, OUT_OF_MEMORY, REFUSED_COVER, REFUSED_INPUT, REFUSED_JOURNAL,
+    REFUSED_WORDS, STOPPED, UNREAD,
+};
 use bound_cover::{Verdict, Why};
 use dp_model::OutOfMemory;
 use itoa::Buffer;
@@ -24,21 +28,21 @@ pub fn status(answer: &Answer) -> u8
     match answer {
         Answer::Searched(outcome, _) => outcome_status(outcome),
         Answer::Covered(outcome, _, cover) => covered_status(outcome, cover),
-        Answer::Digest(_) | Answer::Drawn(_) | Answer::PartFile(_) => 0,
+        Answer::Digest(_) | Answer::Drawn(_) | Answer::PartFile(_) => DONE,
         Answer::Checked(verdict) => verdict_status(*verdict),
         Answer::Refused(_)
         | Answer::CoverRefused(_)
         | Answer::ReportRefused(_)
         | Answer::PartTooLarge
-        | Answer::TooLong => 3,
+        | Answer::TooLong => REFUSED_INPUT,
         Answer::PartsRefused(refusal) => join_status(*refusal),
         Answer::PartSearched { outcome, .. } => part_status(outcome),
         Answer::ReportsRefused(refusal) => report_refusal_status(*refusal),
-        Answer::Width => 4,
+        Answer::Width => REFUSED_WORDS,
         Answer::Words(error) => words_status(*error),
         Answer::Journal(error) => journal_status(*error),
-        Answer::ReadFault => 6,
-        Answer::OutOfMemory => 8,
+        Answer::ReadFault => UNREAD,
+        Answer::OutOfMemory => OUT_OF_MEMORY,
     }
 }
 
@@ -47,9 +51,9 @@ fn outcome_status(outcome: &Outcome) -> u8
     ensures { result ≡ outcome_status outcome.now }
 {
     match outcome {
-        Outcome::Proved { .. } => 0,
-        Outcome::Infeasible => 1,
-        Outcome::Stopped(_, _, _) => 2,
+        Outcome::Proved { .. } => DONE,
+        Outcome::Infeasible => INFEASIBLE,
+        Outcome::Stopped(_, _, _) => STOPPED,
     }
 }
 
@@ -59,7 +63,7 @@ fn covered_status(outcome: &Outcome, cover: &Option<Vec<u8>>) -> u8
 {
     match cover {
         Some(_) => outcome_status(outcome),
-        None => 8,
+        None => OUT_OF_MEMORY,
     }
 }
 
@@ -68,8 +72,8 @@ fn verdict_status(verdict: Verdict) -> u8
     ensures { result ≡ verdict_status verdict }
 {
     match verdict {
-        Verdict::Accepted => 0,
-        Verdict::Refused(_) => 9,
+        Verdict::Accepted => DONE,
+        Verdict::Refused(_) => REFUSED_COVER,
     }
 }
 
@@ -78,8 +82,8 @@ fn join_status(refusal: JoinRefusal) -> u8
     ensures { result ≡ join_status refusal }
 {
     match refusal {
-        JoinRefusal::Order { .. } | JoinRefusal::Instance { .. } => 3,
-        JoinRefusal::Refused { .. } => 9,
+        JoinRefusal::Order { .. } | JoinRefusal::Instance { .. } => REFUSED_INPUT,
+        JoinRefusal::Refused { .. } => REFUSED_COVER,
     }
 }
 
@@ -88,8 +92,8 @@ fn part_status(outcome: &PartOutcome) -> u8
     ensures { result ≡ part_status outcome.now }
 {
     match outcome {
-        PartOutcome::Settled { .. } => 0,
-        PartOutcome::Stopped(_, _, _) => 2,
+        PartOutcome::Settled { .. } => DONE,
+        PartOutcome::Stopped(_, _, _) => STOPPED,
     }
 }
 
@@ -100,8 +104,8 @@ fn report_refusal_status(refusal: ReportRefusal) -> u8
     match refusal {
         ReportRefusal::Order { .. }
         | ReportRefusal::Journal { .. }
-        | ReportRefusal::Distance { .. } => 3,
-        ReportRefusal::Value { .. } => 9,
+        | ReportRefusal::Distance { .. } => REFUSED_INPUT,
+        ReportRefusal::Value { .. } => REFUSED_COVER,
     }
 }
 
@@ -110,8 +114,10 @@ fn words_status(error: WordsError) -> u8
     ensures { result ≡ words_status error }
 {
     match error {
-        WordsError::Usage | WordsError::Model | WordsError::Number { .. } | WordsError::Cutset => 4,
-        WordsError::OutOfMemory => 8,
+        WordsError::Usage | WordsError::Model | WordsError::Number { .. } | WordsError::Cutset => {
+            REFUSED_WORDS
+        }
+        WordsError::OutOfMemory => OUT_OF_MEMORY,
     }
 }
 
@@ -125,9 +131,9 @@ fn journal_status(error: JournalError) -> u8
         | JournalError::Damaged { .. }
         | JournalError::Malformed { .. }
         | JournalError::Version { .. }
-        | JournalError::NoSolution { .. } => 5,
-        JournalError::OutOfMemory => 8,
-        JournalError::Disk => 10,
+        | JournalError::NoSolution { .. } => REFUSED_JOURNAL,
+        JournalError::OutOfMemory => OUT_OF_MEMORY,
+        JournalError::Disk => DISK_FAILED,
     }
 }
 

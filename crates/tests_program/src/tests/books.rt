@@ -15,7 +15,7 @@ const FIRST: &str = "proved\nvalue 120\nassignment 0 1 1\ncover knapsack\ninstan
 /// How a search of the ten items ends.
 const TEN: &str = "proved\nvalue 709\n";
 
-/// Words of searches whose books hold none of their diagrams, some or all, an instance, how what is printed begins, and the status.
+/// Searches whose books hold none, some or all of their diagrams: words, an instance, how what is printed begins, and the status.
 const COVERED: &[Case] = &[
     (
         "solve knapsack --cover --cover-words 1",

@@ -36,7 +36,7 @@ fn part_of<R: Abort + Threads + Wait + Sync>(rt: &R, alloc: Global) -> Vec<u8> {
     told.text.taken().to_vec(alloc).expect(rt, "a part")
 }
 
-/// What a search prints that goes on from a file without taking anything: as it is, with the offers, and later without them.
+/// What is printed by a search that goes on from a file and takes nothing: without offers, with the offers, and later without them.
 fn takes_offers<R: Abort + Threads + Wait + Sync>(
     rt: &R,
     alloc: Global,
@@ -116,7 +116,7 @@ const ENDED: &[(&str, u8)] = &[
     ("proved within 10\nvalue 120\nassignment 0 1 1\n", 0),
 ];
 
-/// More disk calls than a search makes that goes on from its end with one offer.
+/// More disk calls than a search makes that has ended and goes on with one offer.
 const MORE_CALLS: u64 = 30;
 
 /// The place of what is printed where only the call with this number fails.

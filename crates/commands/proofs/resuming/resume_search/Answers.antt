@@ -45,10 +45,10 @@ returns-in-Ok-clause-told g c =
     let ended = c.search_offered-ended.result.0 in
     let now = c.search_offered-ended.result.1 in
     let searched = searched-here g.D.Disk meaning (g.P.DpModel.numbers c.deref.result.now) here at c.new-kept.result board c.args.disk true kept.board kept.made (ap is_some kept.tail) now own search ended (c.search_offered-ended.ensures.searched (own (g.P.DpModel.numbers c.deref.result.now)) (agrees_of g c.deref.result.now)) in
-    let taken = subst (λ d. IfOk ended (λ told. AreWorthAtMost offers (told_value told.0) ⊎ Rose (g.D.Disk.faults d) (g.D.Disk.faults now))) kept.made (c.search_offered-ended.ensures.taken (own (g.P.DpModel.numbers c.deref.result.now)) (agrees_of g c.deref.result.now)) in
+    let taken = subst (λ d. IfOk ended (λ told. AreWorthAtMost offers (told_value told.outcome) ⊎ Rose (g.D.Disk.faults d) (g.D.Disk.faults now))) kept.made (c.search_offered-ended.ensures.taken (own (g.P.DpModel.numbers c.deref.result.now)) (agrees_of g c.deref.result.now)) in
     let gone = gone-on g.D.Disk dp (own here) head records.records offers search c.args.disk c.args.tail c.requires.opened now board.first on.accepted c.in-Ok.ensures.tested (first-restored dp search records board start.desks on)
     (λ sound. first-good dp (laws_of g c.args.model) search records board start.desks may on (subst (λ z. AreSound dp z records.records) (sym near) sound)) ended taken searched in
-    subst (λ r. IfOk r (λ told. IsToldOn g.D.Disk dp (own here) head records.records offers (going_on head c.args.asked.search) now told.0 told.1)) (sym c.or_memory.ensures)
+    subst (λ r. IfOk r (λ told. IsToldOn g.D.Disk dp (own here) head records.records offers (going_on head c.args.asked.search) now told.outcome told.counts)) (sym c.or_memory.ensures)
     (told-on g.D.Disk dp (own here) head records.records offers search c.args.asked.search same now ended gone)
 
 pub returns-in-Ok-clause-refused : goal.returns-in-Ok-clause-refused
