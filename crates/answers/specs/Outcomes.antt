@@ -21,7 +21,7 @@ use Rattle.solver_words.specs.declared.job.JobSettings.{JobSettings}
 use Rattle.answers.specs.Over.{IsOver}
 use Rattle.answers.specs.Reports.{IncumbentIsFeasible, IsInfeasible, IsProvedWithin, NoneIsWorthMore}
 
--- why a board is not explored: the budget is taken up and no cause is held, or want of memory or a failed journal is held
+-- why a board is not explored: the budget is used up and no cause is held, or want of memory or a failed journal is held
 abbrev pub StopHolds : BoardState → Stop → Type 0
 StopHolds b Budget = IsTrue (is_budget_up b) × (b.cause ≡ None)
 StopHolds b Memory = b.cause ≡ Some causes.Memory

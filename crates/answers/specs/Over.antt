@@ -10,7 +10,7 @@ use Rattle.solver_words.specs.declared.job.JobSettings.{JobSettings}
 use Rattle.answers.specs.Widths.{IsSearchWidth}
 
 -- a run from the first board, which has this width, this number of workers, this budget and this distance from the best, led to it, and nothing is out;
--- where something is open and no cause is held the budget is taken up, which it is not where the first board was good and the budget and the tickets
+-- where something is open and no cause is held the budget is used up, which it is not where the first board was good and the budget and the tickets
 -- suffice for every prefix
 pub record IsOver (dp : Dp) (search : JobSettings) (first b : BoardState) : Type 0 where
   pub steps : List Step
