@@ -406,7 +406,7 @@ fn replays(
         answer(rt, alloc, records),
         wanted,
         "of {} records",
-        records.len_after_base()
+        records.len()
     );
 }
 
