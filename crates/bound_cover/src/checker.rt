@@ -68,12 +68,7 @@ impl Checker {
     /// feasible solution.
     ///
     /// The checker was prepared for the model, and `reported.within` is a distance. It takes no memory.
-    pub fn check<M: DpModel>(
-        &mut self,
-        model: &M,
-        reported: Reported<'_>,
-        cover: &Cover,
-    ) -> Verdict
+    pub fn check<M: DpModel>(&mut self, model: &M, reported: Reported<'_>, cover: &Cover) -> Verdict
         requires prepared { self.old.words ≡ (M.meaning (M.numbers model.now)).words }
         requires distance { IsDistance reported.within }
         ensures verdict { result ≡ verdict (M.meaning (M.numbers model.now)) reported.entry.best reported.entry.within reported.entry.assignment.now cover.now }

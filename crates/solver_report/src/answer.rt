@@ -55,7 +55,7 @@ impl Solution {
 /// Why a search ended while something was open.
 #[derive(Clone, Copy, Debug, PartialEq, Eq)]
 pub enum Stop {
-    /// The budget is taken up.
+    /// The budget is used up.
     Budget,
     /// Memory ran out.
     Memory,
