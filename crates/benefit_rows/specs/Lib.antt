@@ -1,2 +1,3 @@
 pub mod Benefits
 pub mod BenefitLaws
+pub mod Narrow

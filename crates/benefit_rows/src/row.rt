@@ -1,10 +1,14 @@
 //! One pass over rows of signed benefits.
 
-ghost use Rattle.std.specs.Prelude.{◌≡◌, ◌^◌, ◌+◌, ◌*◌, ◌≤◌, pos, ◌+ℤ◌, ◌≤ℤ◌, length, replicate, take, drop};
+ghost use Rattle.std.specs.Prelude.{◌≡◌, ◌^◌, ◌+◌, ◌*◌, ◌≤◌, pos, ◌+ℤ◌, ◌≤ℤ◌, true, length, replicate, take, drop};
 ghost use Rattle.benefit_rows.specs.Benefits.{above_zero, below_zero, benefit_merged, differences, gap_between, gap_of, merged_of, rank_of, size_of, sums_of, where_at_most};
+ghost use Rattle.benefit_rows.specs.Narrow.{AreNarrow};
 
 // How many differences are added up before their sum is tested.
 const BLOCK: usize = 8;
+
+// Differences of rows whose ranks are below this are added up in 32 bits, of which a processor takes four at a time.
+const NARROW: i64 = 1 << 30;
 
 /// How far a benefit is above zero: what it gains by yes.
 pub fn above_zero(benefit: i64) -> i64
@@ -80,28 +84,30 @@ pub fn gap_within(from: &[i64], from_rank: i64, to: &[i64], to_rank: i64, most: 
     if most < more.max(0) {
         return None;
     }
-    let sizes = distance_within(from, to, 2 * most.min(to_rank) - more)?;
+    let narrow = from_rank < NARROW && to_rank < NARROW;
+    let sizes = distance_within(from, to, 2 * most.min(to_rank) - more, narrow)?;
     Some((more + sizes) / 2)
 }
 
-/// The sum of the sizes of the differences where it is at most `most`. The rows are read only until it is known to exceed. It is never
-/// inlined, so that the callers of `gap_within` inline the test of the ranks alone.
+/// The sum of the sizes of the differences where it is at most `most`. The rows are read only until it is known to exceed. `narrow` says
+/// that both ranks are below `2^30`. It is never inlined, so that the callers of `gap_within` inline the test of the ranks alone.
 #[inline(never)]
-fn distance_within(from: &[i64], to: &[i64], most: i64) -> Option<i64>
+fn distance_within(from: &[i64], to: &[i64], most: i64, narrow: bool) -> Option<i64>
     requires lengths { length from.now ≡ length to.now }
     requires from_size { rank_of from.now ≤ℤ pos (2 ^ 60) }
     requires to_size { rank_of to.now ≤ℤ pos (2 ^ 60) }
+    requires narrow { narrow ≡ true → AreNarrow from.now to.now }
     ensures { result ≡ where_at_most most (rank_of (differences from.now to.now)) }
 {
     let mut sizes = 0;
     let blocks = from.len() / BLOCK;
     for block in 0..blocks {
-        sizes += distance(block_of(from, block), block_of(to, block));
+        sizes += distance(block_of(from, block), block_of(to, block), narrow);
         if sizes > most {
             return None;
         }
     }
-    sizes += distance(rest_after(from, blocks), rest_after(to, blocks));
+    sizes += distance(rest_after(from, blocks), rest_after(to, blocks), narrow);
     if sizes > most { None } else { Some(sizes) }
 }
 
@@ -121,8 +127,36 @@ fn rest_after(row: &[i64], blocks: usize) -> &[i64]
     &row[BLOCK * blocks..]
 }
 
-/// The sum of the sizes of the differences.
-fn distance(from: &[i64], to: &[i64]) -> i64
+/// The sum of the sizes of the differences. `narrow` says that both ranks are below `2^30`.
+fn distance(from: &[i64], to: &[i64], narrow: bool) -> i64
+    requires lengths { length from.now ≡ length to.now }
+    requires from_size { rank_of from.now ≤ℤ pos (2 ^ 60) }
+    requires to_size { rank_of to.now ≤ℤ pos (2 ^ 60) }
+    requires narrow { narrow ≡ true → AreNarrow from.now to.now }
+    ensures { result ≡ rank_of (differences from.now to.now) }
+{
+    if narrow {
+        i64::from(narrow_distance(from, to))
+    } else {
+        wide_distance(from, to)
+    }
+}
+
+/// The same for narrow rows, added up in 32 bits.
+fn narrow_distance(from: &[i64], to: &[i64]) -> i32
+    requires lengths { length from.now ≡ length to.now }
+    requires narrow { AreNarrow from.now to.now }
+    ensures { result ≡ rank_of (differences from.now to.now) }
+{
+    let mut total = 0;
+    for i in 0..from.len() {
+        total += (to[i] as i32 - from[i] as i32).abs();
+    }
+    total
+}
+
+/// The same for any rows, added up in 64 bits.
+fn wide_distance(from: &[i64], to: &[i64]) -> i64
     requires lengths { length from.now ≡ length to.now }
     requires from_size { rank_of from.now ≤ℤ pos (2 ^ 60) }
     requires to_size { rank_of to.now ≤ℤ pos (2 ^ 60) }

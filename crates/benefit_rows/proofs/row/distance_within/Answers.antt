@@ -3,6 +3,7 @@ use Rattle.std.proofs.lemmas.Int.{ints}
 use Rattle.benefit_rows.specs.Benefits.{differences, rank_of}
 use Rattle.benefit_rows.specs.BenefitLaws.{rank_of-drop}
 use Rattle.benefit_rows.proofs.Distances.{SumMore, part_small, after_block, after_rest, exceeds, keeps_within}
+use Rattle.benefit_rows.proofs.Narrow.{drop_narrow, take_narrow}
 use Rattle.benefit_rows.proofs.row.distance_within.Goals as goal
 
 pub distance-sizes-requires-clause-from_size : goal.distance-sizes-requires-clause-from_size
@@ -10,6 +11,10 @@ distance-sizes-requires-clause-from_size c = rw c.block_of.ensures (part_small 8
 
 pub distance-sizes-requires-clause-to_size : goal.distance-sizes-requires-clause-to_size
 distance-sizes-requires-clause-to_size c = rw c.block_of-in-loop-block.ensures (part_small 8 (8 * c.loop-block.block) c.args.to.now c.requires.to_size)
+
+pub distance-sizes-requires-clause-narrow : goal.distance-sizes-requires-clause-narrow
+distance-sizes-requires-clause-narrow c flag =
+    rw (c.block_of.ensures, c.block_of-in-loop-block.ensures) (take_narrow 8 _ _ (drop_narrow (8 * c.loop-block.block) c.args.from.now c.args.to.now (c.requires.narrow flag)))
 
 more : (c : goal.After-distance-sizes)
     → SumMore c.args.from.now c.args.to.now (to_z w64 c.loop-block.sizes-bits) c.distance-sizes.result (drop (8 * (c.loop-block.block + 1)) (differences c.args.from.now c.args.to.now))
@@ -41,6 +46,10 @@ distance-sizes-requires-2-clause-from_size c =
 pub distance-sizes-requires-2-clause-to_size : goal.distance-sizes-requires-2-clause-to_size
 distance-sizes-requires-2-clause-to_size c =
     rw c.rest_after-2.ensures (omega (arith, ints, rank_of-drop (8 * (length c.args.from.now / 8)) c.args.to.now, c.requires.to_size))
+
+pub distance-sizes-requires-2-clause-narrow : goal.distance-sizes-requires-2-clause-narrow
+distance-sizes-requires-2-clause-narrow c flag =
+    rw (c.rest_after.ensures, c.rest_after-2.ensures) (drop_narrow (8 * (length c.args.from.now / 8)) c.args.from.now c.args.to.now (c.requires.narrow flag))
 
 pub overflow_add-sizes-2 : goal.overflow_add-sizes-2
 overflow_add-sizes-2 c =

@@ -1,7 +1,9 @@
 use Rattle.std.proofs.Common.{Some, sym, ap, ◌∙◌}
 use Rattle.benefit_rows.specs.Benefits.{differences, rank_of, gap_of}
 use Rattle.benefit_rows.proofs.Distances.{gap_facts, LimitFacts, limit_facts, half_facts, by_ranks, within_most, beyond_most, some_within, none_within}
+use Rattle.benefit_rows.proofs.Narrow.{below_narrow}
 use Rattle.benefit_rows.proofs.row.gap_within.Goals as goal
+use Rattle.benefit_rows.proofs.row.gap_within.Goals.{then-from_rank-lt-NARROW, else-from_rank-lt-NARROW}
 
 pub overflow_sub-more : goal.overflow_sub-more
 overflow_sub-more c =
@@ -22,6 +24,16 @@ overflow_mul-min c = (limit c).product_fits
 
 pub overflow_sub-min : goal.overflow_sub-min
 overflow_sub-min c = (limit c).fits
+
+pub distance_within-requires-clause-narrow : goal.distance_within-requires-clause-narrow
+distance_within-requires-clause-narrow c flag =
+    elim c.if-from_rank-lt-NARROW.branch [
+      | then-from_rank-lt-NARROW w ↦ record {
+        from_rank = below_narrow c.args.from.now c.args.from_rank c.ranges.from_rank c.requires.from_rank w.if-from_rank-lt-NARROW.true;
+        to_rank = below_narrow c.args.to.now c.args.to_rank c.ranges.to_rank c.requires.to_rank (sym w.narrow-is ∙ flag);
+      }
+      | else-from_rank-lt-NARROW w ↦ absurd cc
+    ]
 
 pub returns-in_err-sizes : goal.returns-in_err-sizes
 returns-in_err-sizes c =

@@ -1,6 +1,6 @@
 use Rattle.std.proofs.Common.{◌≡◌, pos, ◌+ℤ◌, ◌≤ℤ◌, drop}
 use Rattle.benefit_rows.specs.Benefits.{differences, rank_of}
-use Rattle.benefit_rows.proofs.row.distance.Given as goal
+use Rattle.benefit_rows.proofs.row.narrow_distance.Given as goal
 
 -- the sizes so far and those of the other differences make the sum
 abbrev pub invariant-loop-i : goal.invariant-loop-i

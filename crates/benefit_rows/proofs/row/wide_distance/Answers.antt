@@ -5,7 +5,7 @@ use Rattle.benefit_rows.specs.Benefits.{differences, rank_of}
 use Rattle.benefit_rows.specs.BenefitLaws.{differences-most, length-differences}
 use Rattle.benefit_rows.proofs.Steps.{RankMore, rank_more}
 use Rattle.benefit_rows.proofs.Distances.{difference_at}
-use Rattle.benefit_rows.proofs.row.distance.Goals as goal
+use Rattle.benefit_rows.proofs.row.wide_distance.Goals as goal
 
 pub overflow_sub-to : goal.overflow_sub-to
 overflow_sub-to c = (difference_at c.args.from.now c.args.to.now c.loop-i.i c.loop-i-test.true c.requires.lengths c.requires.from_size c.requires.to_size).fits
