@@ -3,3 +3,4 @@ pub mod Built
 pub mod Numbers
 pub mod Halves
 pub mod Made
+pub mod RowRuns

@@ -1,3 +1,4 @@
 pub mod Building
+pub mod Cut
 pub mod Numbers
 pub mod Shown

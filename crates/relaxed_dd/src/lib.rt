@@ -17,10 +17,12 @@
 
 mod building;
 mod compiling;
+mod cut;
 mod diagram;
 mod suffixes;
 mod widely;
 
 pub use compiling::{compile, relaxed, shown};
+pub use cut::CutRows;
 pub use diagram::Diagram;
 pub use widely::{compile_with, relaxed_with};
