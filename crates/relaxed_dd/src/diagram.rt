@@ -15,6 +15,13 @@ pub struct Diagram<'w> {
 impl<'w> Diagram<'w> {
     ghost use Rattle.relaxed_dd.specs.Shown.{layers_of, width_of, layer_in, last_of};
 
+    /// The workspace that it lies in.
+    pub fn space(&self) -> &Workspace
+        ensures { result.now ≡ self.now.space.now }
+    {
+        self.space
+    }
+
     /// The depth of the first layer: how many decisions the prefix has.
     pub fn first_depth(&self) -> usize
         ensures { result ≡ (layers_of self.now).first }
