@@ -110,7 +110,7 @@ builds-all dp t start s h =
 
 -- a layer that is expanded, pruned and reduced is built
 
-abbrev after_pruning : Dp → Option ℤ → List Told → SpaceView → SpaceView
+abbrev pub after_pruning : Dp → Option ℤ → List Told → SpaceView → SpaceView
 after_pruning dp t told s = record s { layers = expand_last (λ l. prune dp (last_depth s + 1) t (expand dp (last_depth s) l)) s.layers; told = told }
 
 one-built : (dp : Dp) (t : Option ℤ) (s new : SpaceView) (told : List Told) → 0 < length s.layers → HasReduced dp (after_pruning dp t told s) new → HasBuilt dp t s new

@@ -1,5 +1,5 @@
 -- The suffixes of all layers, from the last one up.
-use Rattle.std.proofs.Common.{◌≡◌, ℕ, zero, suc, ◌+◌, ◌-◌, ◌<◌, ◌≤◌, List, [], ◌∷◌, length, map, slice_get, unwrap_or, refl, sym, ◌∙◌, ap, subst, arith}
+use Rattle.std.proofs.Common.{◌≡◌, ℕ, zero, suc, ◌+◌, ◌-◌, ◌<◌, ◌≤◌, List, [], ◌∷◌, length, map, refl, sym, ◌∙◌, ap, subst, arith}
 use Rattle.dp_model.specs.Dp.{Dp}
 use Rattle.dp_model.specs.Lists.{Each}
 use Rattle.dp_laws.specs.declared.arc.DdArc.{DdArc}
@@ -9,11 +9,8 @@ use Rattle.layer_build.specs.Layers.{SpaceView, last_depth, layer_at}
 use Rattle.layer_nodes.specs.Ending.{MayAdd, MayLead}
 use Rattle.layer_build.specs.Ended.{ended, ended_at}
 use Rattle.relaxed_dd.specs.Numbers.{AreLayersWithin}
+use Rattle.relaxed_dd.proofs.Lasts.{nth}
 use Rattle.relaxed_dd.proofs.Numbers.{MaySum, may-sum, suffixes_of}
-
--- the layer at a place
-abbrev nth : List (List DdNode) → ℕ → List DdNode
-nth ls j = unwrap_or (slice_get ls j) []
 
 -- layers from depth k on, of which all but the first n have their suffixes
 abbrev pub half : Dp → ℕ → ℕ → List (List DdNode) → List (List DdNode)

@@ -6,6 +6,10 @@ use Rattle.dp_laws.specs.Rules.Compiling.{TwoLayers, merge_rest, is_wide, reduce
 use Rattle.layer_build.specs.Layers.{last_layer, expand_last, on_last_two}
 use Rattle.layer_build.proofs.Pruning.{two-same}
 
+-- the layer at a place
+abbrev pub nth : List (List DdNode) → ℕ → List DdNode
+nth ls i = unwrap_or (slice_get ls i) []
+
 pub length-expand : (rule : List DdNode → TwoLayers) (ls : List (List DdNode)) → 0 < length ls → length (expand_last rule ls) ≡ length ls + 1
 length-expand rule [] some = absurd (omega arith)
 length-expand rule (l ∷ []) some = refl
@@ -61,14 +65,14 @@ rest-none dp first w t k (l ∷ []) = refl
 rest-none dp first w t k (l ∷ n ∷ rest) = ap (λ ls. l ∷ ls) (rest-none dp first w t k (n ∷ rest))
 
 -- the last layer by its place
-pub last-at : (ls : List (List DdNode)) → 0 < length ls → unwrap_or (slice_get ls (length ls - 1)) [] ≡ last_layer ls
+pub last-at : (ls : List (List DdNode)) → 0 < length ls → nth ls (length ls - 1) ≡ last_layer ls
 last-at [] some = absurd (omega arith)
 last-at (l ∷ []) some = refl
 last-at (l ∷ n ∷ rest) some =
     let at : length (l ∷ n ∷ rest) - 1 ≡ suc (length (n ∷ rest) - 1) = omega arith in
-    ap (λ i. unwrap_or (slice_get (l ∷ n ∷ rest) i) []) at ∙ last-at (n ∷ rest) (omega arith)
+    ap (nth (l ∷ n ∷ rest)) at ∙ last-at (n ∷ rest) (omega arith)
 
-pub last-at-depth : (first : ℕ) (ls : List (List DdNode)) (depth : ℕ) → 0 < length ls → depth ≡ first + (length ls - 1) → unwrap_or (slice_get ls (depth - first)) [] ≡ last_layer ls
+pub last-at-depth : (first : ℕ) (ls : List (List DdNode)) (depth : ℕ) → 0 < length ls → depth ≡ first + (length ls - 1) → nth ls (depth - first) ≡ last_layer ls
 last-at-depth first ls depth some e =
     let at : depth - first ≡ length ls - 1 = omega arith in
-    ap (λ i. unwrap_or (slice_get ls i) []) at ∙ last-at ls some
+    ap (nth ls) at ∙ last-at ls some

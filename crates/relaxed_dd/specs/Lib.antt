@@ -1,4 +1,5 @@
 pub mod Building
 pub mod Cut
+pub mod Lean
 pub mod Numbers
 pub mod Shown

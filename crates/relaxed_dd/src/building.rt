@@ -19,7 +19,7 @@ fn is_reduced<M: DpModel>(model: &M, first: usize, depth: usize) -> bool
 }
 
 /// Whether the last layer has to be reduced.
-fn is_wide<M: DpModel>(space: &Workspace, model: &M) -> bool
+pub(super) fn is_wide<M: DpModel>(space: &Workspace, model: &M) -> bool
     requires { 0 < length space.now.layers }
     ensures { result ≡ is_wide (M.meaning (M.numbers model.now)) (length space.now.prefix) space.now.width (last_depth space.now) (last_layer space.now.layers) }
 {

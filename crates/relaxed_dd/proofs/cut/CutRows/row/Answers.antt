@@ -1,8 +1,7 @@
-use Rattle.std.proofs.Common.{◌≡◌, ◌+◌, ◌*◌, ◌-◌, ◌<◌, ◌≤◌, ◌^◌, ℤ, List, take, drop, length, sym, ◌∙◌, ap, arith, Some, slice_get}
+use Rattle.std.proofs.Common.{◌≡◌, ◌+◌, ◌*◌, ◌-◌, ℤ, List, take, drop, length, sym, ◌∙◌, ap, arith, Some, slice_get}
 use Rattle.std.specs.Prelude.{vec_capacity}
-use Rattle.relaxed_dd.specs.Cut.{CutView, rows_in}
+use Rattle.relaxed_dd.specs.Cut.{CutView}
 use Rattle.relaxed_dd.proofs.RowRuns.{few-cells, row-fits, row-at, rows-length}
-use Rattle.relaxed_dd.proofs.cut.CutRows.row.Given as given
 use Rattle.relaxed_dd.proofs.cut.CutRows.row.Goals as goal
 
 pub overflow_mul-at : goal.overflow_mul-at
