@@ -2,6 +2,7 @@ pub mod Kept
 pub mod Made
 pub mod Searched
 pub mod Taken
+pub mod Copied
 pub mod Cuts
 pub mod Passing
 pub mod Lefts

@@ -2,9 +2,9 @@
 
 ghost use Rattle.std.specs.Prelude.{◌≡◌, ◌+◌, ◌≤◌, ◌++◌, true, Some, length, option_map, vec_capacity};
 ghost use Rattle.dp_laws.specs.Diagrams.Nodes.{node_at};
-ghost use Rattle.relaxed_dd.specs.Shown.{layers_of};
+ghost use Rattle.layer_build.specs.Layers.{diagram_of};
 
-use relaxed_dd::Diagram;
+use layer_build::Workspace;
 
 /// Puts a row after the others, for which there is room.
 pub(crate) fn append_row(rows: &mut Vec<i64>, row: &[i64])
@@ -28,19 +28,19 @@ fn append_decisions(paths: &mut Vec<u32>, path: &[u32])
 pub(crate) fn append_path(
     paths: &mut Vec<u32>,
     path: &mut [u32],
-    diagram: &Diagram,
+    space: &Workspace,
     depth: usize,
     node: usize,
 )
-    requires first { (layers_of diagram.now).first ≤ depth }
-    requires exact { option_map (λ n. n.exact) (node_at (layers_of diagram.now) depth node) ≡ Some true }
+    requires first { (diagram_of space.now).first ≤ depth }
+    requires exact { option_map (λ n. n.exact) (node_at (diagram_of space.now) depth node) ≡ Some true }
     requires cells { depth ≤ length path.old }
     requires room { length paths.old.items + depth ≤ vec_capacity paths.old }
-    ensures items { option_map (λ n. paths.old.items ++ n.path) (node_at (layers_of diagram.now) depth node) ≡ Some paths.new.items }
+    ensures items { option_map (λ n. paths.old.items ++ n.path) (node_at (diagram_of space.now) depth node) ≡ Some paths.new.items }
     ensures len { length paths.new.items ≡ length paths.old.items + depth }
     ensures room { vec_capacity paths.old ≤ vec_capacity paths.new }
 {
     let own = &mut path[..depth];
-    diagram.path(depth, node, own);
+    space.path(depth, node, own);
     append_decisions(paths, own);
 }

@@ -1,15 +1,19 @@
 ghost use Rattle.std.specs.Prelude.{◌≡◌, ◌<◌, ◌≤◌, Some, length, option_map, slice_get, IfOk};
+ghost use Rattle.dp_model.specs.declared.cut_kind.CutKind.TheVariants.{LastExactLayer};
 ghost use Rattle.dp_laws.specs.Children.{children_size};
 ghost use Rattle.dp_laws.specs.Diagrams.Cutsets.{children_at, children_of, found_in};
 ghost use Rattle.layer_build.specs.Finding.{IsFound};
-ghost use Rattle.relaxed_dd.specs.Shown.{layers_of, width_of, IsDiagramOf};
+ghost use Rattle.layer_build.specs.Layers.{diagram_of};
+ghost use Rattle.relaxed_dd.specs.Cut.{AreCutOf};
+ghost use Rattle.relaxed_dd.specs.Shown.{layers_of, width_of, IsDiagramOf, IsRelaxed};
 ghost use Rattle.exact_cutset.specs.Prepared.{IsListPreparedFor};
 ghost use Rattle.exact_cutset.specs.Seen.{subproblems};
 
 use crate::listed::Listed;
-use crate::taking::take;
+use crate::taking::{take, take_copied};
 use dp_model::{CutKind, DpModel, Found, OutOfMemory, Sub};
-use relaxed_dd::Diagram;
+use layer_build::Workspace;
+use relaxed_dd::{CutRows, Diagram};
 use std::alloc::Global;
 use std::marker::Model;
 
@@ -52,6 +56,20 @@ impl Children {
             &mut self.here,
             &mut self.list,
         );
+    }
+
+    /// Fills the list with the children of the last exact layer, whose rows are copied, and with the solution that the diagram finds.
+    pub(crate) fn fill_copied<M: DpModel>(&mut self, model: &M, space: &Workspace, cut: &CutRows)
+        requires diagram { IsRelaxed (M.meaning (M.numbers model.now)) space.now.width (diagram_of space.now) }
+        requires cut { AreCutOf (diagram_of space.now) cut.now }
+        requires prepared { IsListPreparedFor (M.meaning (M.numbers model.now)) space.now.width LastExactLayer self.old }
+        ensures { self.new ≡ record self.old {
+          places = children_at (M.meaning (M.numbers model.now)) (diagram_of space.now) LastExactLayer;
+          subs = children_of (M.meaning (M.numbers model.now)) (diagram_of space.now) LastExactLayer;
+          found = found_in (M.meaning (M.numbers model.now)) (diagram_of space.now);
+        } }
+    {
+        take_copied(model, space, cut, &mut self.list);
     }
 
     /// How many children there are.

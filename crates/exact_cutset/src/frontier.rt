@@ -83,7 +83,15 @@ fn take_border<M: DpModel>(
     requires room { length out.old.places < out.old.room }
     ensures { IsTakenBorder (M.meaning (M.numbers model.now)) (layers_of diagram.now) depth node (node_at (layers_of diagram.now) depth node) out.old out.new result }
 {
-    leaves(diagram, depth, node) && offer(model, diagram, depth, node, out)
+    leaves(diagram, depth, node)
+        && offer(
+            model,
+            diagram.space(),
+            depth,
+            node,
+            diagram.row(depth, node),
+            out,
+        )
 }
 
 /// Looks at a node: it becomes a child where it is an exact border with a bound, and no child stands above it. Answers whether

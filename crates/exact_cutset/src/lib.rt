@@ -4,7 +4,7 @@
 //! with a bound on all completions that begin with its path, and of the first exact node of the last layer, which is a solution.
 //! They are those that `dp_laws` defines on the diagram's layers, whose laws say that no completion that counts is lost. It looks at
 //! each node and each arc once at most, and takes no memory; the list is prepared once. `subs` gives the children as subproblems
-//! of their own.
+//! of their own. `cut_children` gives the same for the last exact layer where the rows of that layer alone were kept.
 //!
 //! ```
 //! let mut list = Children::prepare(alloc, &model, width, CutKind::LastExactLayer)?;
@@ -22,7 +22,8 @@ mod frontier;
 mod listed;
 mod making;
 mod preparing;
+mod rows;
 mod taking;
 
 pub use filled::Children;
-pub use taking::children;
+pub use taking::{children, cut_children};

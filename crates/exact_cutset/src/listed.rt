@@ -2,14 +2,15 @@ ghost use Rattle.std.specs.Prelude.{◌≡◌, ◌<◌, ◌≤◌, [], None, Som
 ghost use Rattle.dp_laws.specs.Children.{children_size};
 ghost use Rattle.dp_laws.specs.Diagrams.Nodes.{node_at};
 ghost use Rattle.layer_build.specs.Finding.{IsFound};
-ghost use Rattle.relaxed_dd.specs.Shown.{layers_of, last_of};
+ghost use Rattle.layer_build.specs.Layers.{diagram_of};
+ghost use Rattle.relaxed_dd.specs.Shown.{last_of};
 ghost use Rattle.exact_cutset.specs.Seen.{MayKeep, IsExactNode, with_child, with_solution, subproblems};
 
 use crate::appending::{append_path, append_row};
 use crate::child::Child;
 use crate::making::make_subs;
 use dp_model::{Found, OutOfMemory, Sub};
-use relaxed_dd::Diagram;
+use layer_build::Workspace;
 use std::alloc::Global;
 use std::marker::Model;
 
@@ -74,29 +75,37 @@ impl Listed {
         self.found = None;
     }
 
-    /// Puts a node in as the last child.
-    pub(crate) fn keep(&mut self, diagram: &Diagram, depth: usize, node: usize, bound: i64)
-        requires first { (layers_of diagram.now).first ≤ depth }
+    /// Puts a node in as the last child, with its row.
+    pub(crate) fn keep(
+        &mut self,
+        space: &Workspace,
+        depth: usize,
+        node: usize,
+        row: &[i64],
+        bound: i64,
+    )
+        requires first { (diagram_of space.now).first ≤ depth }
         requires depth { depth ≤ self.old.vars }
-        requires node { MayKeep self.old.words (node_at (layers_of diagram.now) depth node) }
+        requires node { MayKeep self.old.words (node_at (diagram_of space.now) depth node) }
+        requires row { option_map (λ n. n.row) (node_at (diagram_of space.now) depth node) ≡ Some row.now }
         requires room { length self.old.places < self.old.room }
-        ensures { self.new ≡ with_child (layers_of diagram.now) (record { depth = depth; place = node; bound = bound }) self.old }
+        ensures { self.new ≡ with_child (diagram_of space.now) (record { depth = depth; place = node; bound = bound }) self.old }
     {
-        let value = diagram.value(depth, node);
-        append_row(&mut self.rows, diagram.row(depth, node));
-        append_path(&mut self.paths, &mut self.path, diagram, depth, node);
+        let value = space.value(depth, node);
+        append_row(&mut self.rows, row);
+        append_path(&mut self.paths, &mut self.path, space, depth, node);
         let child = Child::at(depth, node, value, bound);
         self.places.push_reserved(child);
     }
 
     /// Puts in an exact node of the last layer as the solution.
-    pub(crate) fn keep_solution(&mut self, diagram: &Diagram, node: usize)
-        requires depth { last_of (layers_of diagram.now) ≡ self.old.vars }
-        requires node { IsExactNode (node_at (layers_of diagram.now) self.old.vars node) }
-        ensures { self.new ≡ with_solution (layers_of diagram.now) node self.old }
+    pub(crate) fn keep_solution(&mut self, space: &Workspace, node: usize)
+        requires depth { last_of (diagram_of space.now) ≡ self.old.vars }
+        requires node { IsExactNode (node_at (diagram_of space.now) self.old.vars node) }
+        ensures { self.new ≡ with_solution (diagram_of space.now) node self.old }
     {
-        diagram.path(self.vars, node, &mut self.decisions);
-        self.found = Some(diagram.value(self.vars, node));
+        space.path(self.vars, node, &mut self.decisions);
+        self.found = Some(space.value(self.vars, node));
     }
 
     /// How many children there are.

@@ -1,77 +1,94 @@
 //! The children of a diagram.
 
-ghost use Rattle.std.specs.Prelude.{◌≡◌, ◌<◌, ◌≤◌, [], is_some, length, map, true, vec_capacity};
+ghost use Rattle.std.specs.Prelude.{◌≡◌, ◌<◌, ◌≤◌, [], Some, is_some, length, map, option_map, true, vec_capacity};
+ghost use Rattle.dp_model.specs.declared.cut_kind.CutKind.TheVariants.{LastExactLayer};
 ghost use Rattle.dp_laws.specs.Diagrams.Nodes.{node_at};
 ghost use Rattle.dp_laws.specs.Diagrams.Cutsets.{children_at, children_of, found_in, last_exact_at, places_where, child_from};
-ghost use Rattle.relaxed_dd.specs.Shown.{layers_of, width_of, layer_in, IsDiagramOf};
+ghost use Rattle.layer_build.specs.Layers.{diagram_of};
+ghost use Rattle.relaxed_dd.specs.Cut.{AreCutOf};
+ghost use Rattle.relaxed_dd.specs.Shown.{layers_of, width_of, layer_in, IsDiagramOf, IsRelaxed};
 ghost use Rattle.exact_cutset.specs.Prepared.{IsListPreparedFor};
 ghost use Rattle.exact_cutset.specs.Ready.{IsChildReadyAt, IsCut, CutIsReady, bound_at, with_bounded};
+ghost use Rattle.exact_cutset.specs.Rows.{HasRows, HasRowsAt};
 
 use crate::bounding::bound_of;
 use crate::filled::Children;
 use crate::finding::find;
 use crate::frontier::take_frontier;
 use crate::listed::Listed;
+use crate::rows::{Rows, row_of};
 use dp_model::{CutKind, DpModel};
-use relaxed_dd::Diagram;
+use layer_build::Workspace;
+use relaxed_dd::{CutRows, Diagram};
 
-/// Puts a node in as a child where it has a bound, and tells whether it has.
+/// Puts a node with its row in as a child where it has a bound, and tells whether it has.
 pub(crate) fn offer<M: DpModel>(
     model: &M,
-    diagram: &Diagram,
+    space: &Workspace,
     depth: usize,
     node: usize,
+    row: &[i64],
     out: &mut Listed,
 ) -> bool
-    requires first { (layers_of diagram.now).first ≤ depth }
+    requires first { (diagram_of space.now).first ≤ depth }
     requires depth { depth ≤ out.old.vars }
     requires words { out.old.words ≡ (M.meaning (M.numbers model.now)).words }
-    requires ready { IsChildReadyAt (M.meaning (M.numbers model.now)) depth (node_at (layers_of diagram.now) depth node) }
+    requires ready { IsChildReadyAt (M.meaning (M.numbers model.now)) depth (node_at (diagram_of space.now) depth node) }
+    requires row { option_map (λ n. n.row) (node_at (diagram_of space.now) depth node) ≡ Some row.now }
     requires room { length out.old.places < out.old.room }
-    ensures kept { out.new ≡ with_bounded (layers_of diagram.now) depth node (bound_at (M.meaning (M.numbers model.now)) (layers_of diagram.now) depth node) out.old }
-    ensures told { result ≡ is_some (bound_at (M.meaning (M.numbers model.now)) (layers_of diagram.now) depth node) }
+    ensures kept { out.new ≡ with_bounded (diagram_of space.now) depth node (bound_at (M.meaning (M.numbers model.now)) (diagram_of space.now) depth node) out.old }
+    ensures told { result ≡ is_some (bound_at (M.meaning (M.numbers model.now)) (diagram_of space.now) depth node) }
 {
-    let Some(bound) = bound_of(model, diagram, depth, node) else {
+    let Some(bound) = bound_of(model, space, depth, node, row) else {
         return false;
     };
-    out.keep(diagram, depth, node, bound);
+    out.keep(space, depth, node, row, bound);
     true
 }
 
 /// Puts in the nodes of a layer that have a bound, in order.
-fn take_layer<M: DpModel>(model: &M, diagram: &Diagram, depth: usize, out: &mut Listed)
-    requires cut { IsCut (M.meaning (M.numbers model.now)) (layers_of diagram.now) depth out.old.room }
+fn take_layer<M: DpModel>(
+    model: &M,
+    space: &Workspace,
+    rows: Rows<'_>,
+    depth: usize,
+    out: &mut Listed,
+)
+    requires cut { IsCut (M.meaning (M.numbers model.now)) (diagram_of space.now) depth out.old.room }
+    requires rows { HasRowsAt space.now depth rows }
     requires vars { out.old.vars ≡ (M.meaning (M.numbers model.now)).vars }
     requires words { out.old.words ≡ (M.meaning (M.numbers model.now)).words }
     requires no_places { out.old.places ≡ [] }
     requires no_subs { out.old.subs ≡ [] }
     ensures { out.new ≡ record out.old {
-      places = places_where (λ node. true) (M.meaning (M.numbers model.now)) depth 0 (layer_in (layers_of diagram.now) depth);
-      subs = map (child_from (layers_of diagram.now)) (places_where (λ node. true) (M.meaning (M.numbers model.now)) depth 0 (layer_in (layers_of diagram.now) depth));
+      places = places_where (λ node. true) (M.meaning (M.numbers model.now)) depth 0 (layer_in (diagram_of space.now) depth);
+      subs = map (child_from (diagram_of space.now)) (places_where (λ node. true) (M.meaning (M.numbers model.now)) depth 0 (layer_in (diagram_of space.now) depth));
     } }
 {
-    let nodes = diagram.nodes(depth);
+    let nodes = space.nodes(depth);
     'nodes: for node in 0..nodes {
-        offer(model, diagram, depth, node, out);
+        let row = row_of(space, rows, depth, node);
+        offer(model, space, depth, node, row, out);
     }
 }
 
 /// Puts in the nodes of the last exact layer.
-fn take_last_exact<M: DpModel>(model: &M, diagram: &Diagram, out: &mut Listed)
-    requires cut { CutIsReady (M.meaning (M.numbers model.now)) (layers_of diagram.now) out.old.room (layers_of diagram.now).first_reduced }
+fn take_last_exact<M: DpModel>(model: &M, space: &Workspace, rows: Rows<'_>, out: &mut Listed)
+    requires cut { CutIsReady (M.meaning (M.numbers model.now)) (diagram_of space.now) out.old.room (diagram_of space.now).first_reduced }
+    requires rows { HasRows space.now rows }
     requires vars { out.old.vars ≡ (M.meaning (M.numbers model.now)).vars }
     requires words { out.old.words ≡ (M.meaning (M.numbers model.now)).words }
     requires no_places { out.old.places ≡ [] }
     requires no_subs { out.old.subs ≡ [] }
     ensures { out.new ≡ record out.old {
-      places = last_exact_at (M.meaning (M.numbers model.now)) (layers_of diagram.now) (layers_of diagram.now).first_reduced;
-      subs = map (child_from (layers_of diagram.now)) (last_exact_at (M.meaning (M.numbers model.now)) (layers_of diagram.now) (layers_of diagram.now).first_reduced);
+      places = last_exact_at (M.meaning (M.numbers model.now)) (diagram_of space.now) (diagram_of space.now).first_reduced;
+      subs = map (child_from (diagram_of space.now)) (last_exact_at (M.meaning (M.numbers model.now)) (diagram_of space.now) (diagram_of space.now).first_reduced);
     } }
 {
-    let Some(reduced) = diagram.first_reduced() else {
+    let Some(reduced) = space.first_reduced() else {
         return;
     };
-    take_layer(model, diagram, reduced - 1, out);
+    take_layer(model, space, rows, reduced - 1, out);
 }
 
 /// Puts in the children of either kind.
@@ -97,7 +114,7 @@ fn take_kind<M: DpModel>(
     ensures here_room { out.old.wide ≤ vec_capacity here.new }
 {
     match kind {
-        CutKind::LastExactLayer => take_last_exact(model, diagram, out),
+        CutKind::LastExactLayer => take_last_exact(model, diagram.space(), Rows::Held, out),
         CutKind::Frontier => take_frontier(model, diagram, above, here, out),
     }
 }
@@ -125,7 +142,23 @@ pub(crate) fn take<M: DpModel>(
 {
     out.clear();
     take_kind(model, diagram, kind, above, here, out);
-    find(model, diagram, out);
+    find(model, diagram.space(), out);
+}
+
+/// Fills the list with the children of the last exact layer, whose rows are copied, and with the solution.
+pub(crate) fn take_copied<M: DpModel>(model: &M, space: &Workspace, cut: &CutRows, out: &mut Listed)
+    requires diagram { IsRelaxed (M.meaning (M.numbers model.now)) space.now.width (diagram_of space.now) }
+    requires cut { AreCutOf (diagram_of space.now) cut.now }
+    requires prepared { IsListPreparedFor (M.meaning (M.numbers model.now)) space.now.width LastExactLayer out.old }
+    ensures { out.new ≡ record out.old {
+      places = children_at (M.meaning (M.numbers model.now)) (diagram_of space.now) LastExactLayer;
+      subs = children_of (M.meaning (M.numbers model.now)) (diagram_of space.now) LastExactLayer;
+      found = found_in (M.meaning (M.numbers model.now)) (diagram_of space.now);
+    } }
+{
+    out.clear();
+    take_last_exact(model, space, Rows::Copied(cut), out);
+    find(model, space, out);
 }
 
 /// Fills `out` with the children of a diagram and with the solution that it finds.
@@ -144,4 +177,18 @@ pub fn children<M: DpModel>(model: &M, diagram: &Diagram, kind: CutKind, out: &m
     ensures prepared { (other : CutKind) → IsListPreparedFor (M.meaning (M.numbers model.now)) (width_of diagram.now) other out.old → IsListPreparedFor (M.meaning (M.numbers model.now)) (width_of diagram.now) other out.new }
 {
     out.fill(model, diagram, kind);
+}
+
+/// Fills `out` with the children of the last exact layer of the diagram that lies in the workspace, and with the solution that it finds,
+/// as `children` does. The rows of that layer are copied, so that the workspace need hold none.
+pub fn cut_children<M: DpModel>(model: &M, space: &Workspace, cut: &CutRows, out: &mut Children)
+    requires diagram { IsRelaxed (M.meaning (M.numbers model.now)) space.now.width (diagram_of space.now) }
+    requires cut { AreCutOf (diagram_of space.now) cut.now }
+    requires prepared { IsListPreparedFor (M.meaning (M.numbers model.now)) space.now.width LastExactLayer out.old }
+    ensures places { out.new.places ≡ children_at (M.meaning (M.numbers model.now)) (diagram_of space.now) LastExactLayer }
+    ensures subs { out.new.subs ≡ children_of (M.meaning (M.numbers model.now)) (diagram_of space.now) LastExactLayer }
+    ensures found { out.new.found ≡ found_in (M.meaning (M.numbers model.now)) (diagram_of space.now) }
+    ensures prepared { (other : CutKind) → IsListPreparedFor (M.meaning (M.numbers model.now)) space.now.width other out.old → IsListPreparedFor (M.meaning (M.numbers model.now)) space.now.width other out.new }
+{
+    out.fill_copied(model, space, cut);
 }

@@ -1,4 +1,4 @@
-use Rattle.std.proofs.Common.{◌≡◌, ◌-◌, length, refl, sym, ◌∙◌, ap, subst, arith}
+use Rattle.std.proofs.Common.{◌≡◌, length, refl, sym, ◌∙◌, ap, subst, arith}
 use Rattle.relaxed_dd.specs.Shown.{layers_of, layer_in}
 use Rattle.exact_cutset.specs.Seen.{ChildrenView}
 use Rattle.exact_cutset.specs.Walking.{HasLooked, IsTakenNode}

@@ -1,4 +1,4 @@
-use Rattle.std.proofs.Common.{true, subst}
+use Rattle.std.proofs.Common.{subst}
 use Rattle.dp_laws.specs.Diagrams.Nodes.{node_at}
 use Rattle.relaxed_dd.specs.Shown.{layers_of}
 use Rattle.exact_cutset.specs.Walking.{IsFreeNode}

@@ -1,4 +1,4 @@
-use Rattle.std.proofs.Common.{◌≡◌, ◌≤◌, ◌^◌, length, ap, arith}
+use Rattle.std.proofs.Common.{◌≡◌, ap, arith}
 use Rattle.dp_laws.specs.Children.{children_size}
 use Rattle.exact_cutset.specs.Seen.{ChildrenView}
 use Rattle.exact_cutset.specs.Stored.{shown_subs}
