@@ -24,7 +24,7 @@ use Rattle.dp_laws.proofs.Rules.Fitting.{layers-fit}
 use Rattle.dp_laws.proofs.Rules.Pruned.{few-pruned}
 use Rattle.dp_laws.proofs.Rules.Redirecting.{followed_node}
 use Rattle.relaxed_dd.specs.Shown.{layer_in, last_of, IsRelaxed}
-use Rattle.exact_cutset.specs.Prepared.{AreEnoughChildren}
+use Rattle.relaxed_dd.specs.Cut.{IsWideEnough}
 use Rattle.exact_cutset.specs.Ready.{IsChildReadyAt, CutIsReady}
 use Rattle.exact_cutset.proofs.Searched.{there}
 use Rattle.exact_cutset.proofs.Taken.{node-here}
@@ -88,7 +88,7 @@ module _ (dp : Dp) (laws : IsLawful dp) (p : List ℕ) (w : ℕ) (t : Option ℤ
       let l = there d.layers (depth - d.first) (omega arith) in
       l.1 ∙ ap Some (sym (ap (λ (o : Option (List DdNode)). unwrap_or o []) l.1))
 
-  pub few-nodes : (room depth : ℕ) → AreEnoughChildren dp w dp.vars room → length (nth d.layers 1) ≤ dp.choices (length p) → length p < depth → depth < dp.vars → length (layer_in d depth) ≤ room
+  pub few-nodes : (room depth : ℕ) → IsWideEnough dp w dp.vars room → length (nth d.layers 1) ≤ dp.choices (length p) → length p < depth → depth < dp.vars → length (layer_in d depth) ≤ room
   few-nodes room depth enough second deep low =
       let first = h.first in
       let wide = enough.width in
@@ -125,7 +125,7 @@ module _ (dp : Dp) (laws : IsLawful dp) (p : List ℕ) (w : ℕ) (t : Option ℤ
         far = λ bound b. child-far dp laws p w t d short h (record { depth = depth; place = i; bound = bound }) (record { node = x.0; is = is; exact = exact; below = omega arith; above = low; bound = b });
       })
 
-  cut-of : (room : ℕ) (o : Option ℕ) → AreEnoughChildren dp w dp.vars room → length (nth d.layers 1) ≤ dp.choices (length p) → d.first_reduced ≡ o → CutIsReady dp d room o
+  cut-of : (room : ℕ) (o : Option ℕ) → IsWideEnough dp w dp.vars room → length (nth d.layers 1) ≤ dp.choices (length p) → d.first_reduced ≡ o → CutIsReady dp d room o
   cut-of room None enough second e = tt
   cut-of room (Some reduced) enough second e =
       let r = reducible dp p w t reduced (sym h.first_reduced ∙ e) in
@@ -148,7 +148,7 @@ module _ (dp : Dp) (laws : IsLawful dp) (p : List ℕ) (w : ℕ) (t : Option ℤ
 abbrev pub seen : (dp : Dp) → IsLawful dp → IsChained dp → (w : ℕ) (d : DdLayers) (r : IsRelaxed dp w d) → IsDiagram dp r.prefix w r.threshold d
 seen dp laws chained w d r = subst (IsDiagram dp r.prefix w r.threshold) (sym r.layers) (compiled-is-diagram dp laws chained r.prefix w r.threshold r.is_prefix r.shorter r.width.positive)
 
-pub cut-is-ready : (dp : Dp) → IsLawful dp → IsChained dp → (w : ℕ) (d : DdLayers) → IsRelaxed dp w d → (room : ℕ) → AreEnoughChildren dp w dp.vars room → CutIsReady dp d room d.first_reduced
+pub cut-is-ready : (dp : Dp) → IsLawful dp → IsChained dp → (w : ℕ) (d : DdLayers) → IsRelaxed dp w d → (room : ℕ) → IsWideEnough dp w dp.vars room → CutIsReady dp d room d.first_reduced
 cut-is-ready dp laws chained w d r room enough =
     let second : length (nth d.layers 1) ≤ dp.choices (length r.prefix) = subst (λ (d : DdLayers). length (nth d.layers 1) ≤ dp.choices (length r.prefix)) (sym r.layers) (second-few dp r.prefix w r.threshold r.shorter) in
     cut-of dp laws r.prefix w r.threshold d r.shorter (seen dp laws chained w d r) room d.first_reduced enough second refl

@@ -24,7 +24,7 @@ use Rattle.dp_laws.proofs.Diagrams.Starts.{starts, reducible}
 use Rattle.dp_laws.proofs.Diagrams.Walks.{keeps-at}
 use Rattle.dp_laws.proofs.Rules.Stems.{exact-stems}
 use Rattle.relaxed_dd.specs.Shown.{layer_in, last_of, IsRelaxed}
-use Rattle.exact_cutset.specs.Prepared.{AreEnoughChildren}
+use Rattle.relaxed_dd.specs.Cut.{IsWideEnough}
 use Rattle.exact_cutset.specs.Walking.{IsPlaceIn, IsStem, IsExactAt, IsWalkable}
 use Rattle.exact_cutset.proofs.Cuts.{nth, second-few, layer-there, few-nodes, seen, last-is}
 use Rattle.exact_cutset.proofs.Searched.{there}
@@ -177,7 +177,7 @@ stems-of dp laws chained w d r depth i j x y low high ax ay exact through long =
     let is : (k n : ℕ) (z : DdNode) → node_at d k n ≡ Some z → node_at (relaxed dp (reached dp r.prefix) w r.threshold) k n ≡ Some z = (λ k n z e. ap (λ (l : DdLayers). node_at l k n) (sym r.layers) ∙ e) in
     exact-stems dp r.prefix w r.threshold (depth - 1) j i y x (omega arith) (omega arith) (is (depth - 1) j y ay) (is (depth - 1 + 1) i x (ap (λ k. node_at d k i) back ∙ ax)) exact (long ∙ sym back) through
 
-pub walkable : (dp : Dp) → IsLawful dp → IsChained dp → (w : ℕ) (d : DdLayers) → IsRelaxed dp w d → (wide room : ℕ) → AreEnoughChildren dp w dp.vars wide → dp.vars * wide ≤ room → IsWalkable dp d wide room
+pub walkable : (dp : Dp) → IsLawful dp → IsChained dp → (w : ℕ) (d : DdLayers) → IsRelaxed dp w d → (wide room : ℕ) → IsWideEnough dp w dp.vars wide → dp.vars * wide ≤ room → IsWalkable dp d wide room
 walkable dp laws chained w d r wide room enough all =
     let h = seen dp laws chained w d r in
     let p = r.prefix in

@@ -1,17 +1,13 @@
 -- What a list of children is prepared for.
-use Rattle.std.specs.Prelude.{◌≡◌, ℕ, ◌*◌, ◌<◌, ◌≤◌, Result, Ok, Err}
+use Rattle.std.specs.Prelude.{◌≡◌, ℕ, ◌*◌, ◌≤◌, Result, Ok, Err}
 use Rattle.dp_model.specs.Dp.{Dp}
 use Rattle.dp_model.specs.declared.cut_kind.CutKind.{CutKind}
 use Rattle.dp_model.specs.declared.cut_kind.CutKind.TheVariants.{LastExactLayer, Frontier}
 use Rattle.layer_build.specs.Layers.{IsWidth}
+use Rattle.relaxed_dd.specs.Cut.{IsWideEnough}
 use Rattle.layer_build.specs.declared.workspace.PrepareError.{PrepareError}
 use Rattle.layer_build.specs.declared.workspace.PrepareError.TheVariants.{Width, OutOfMemory}
 use Rattle.exact_cutset.specs.Seen.{ChildrenView}
-
--- this many nodes are enough for a layer of the width, and for one below a single node
-pub record AreEnoughChildren (dp : Dp) (w n wide : ℕ) : Type 0 where
-  pub width : w ≤ wide
-  pub choices : (k : ℕ) → k < n → dp.choices k ≤ wide
 
 -- how many children a diagram leaves at most: of the last exact layer as many as a layer has nodes, of the frontier as many as all
 -- layers have
@@ -25,7 +21,7 @@ pub record IsListPreparedFor (dp : Dp) (w : ℕ) (kind : CutKind) (c : ChildrenV
   pub width : c.width ≡ w
   pub vars : c.vars ≡ dp.vars
   pub words : c.words ≡ dp.words
-  pub enough : AreEnoughChildren dp w dp.vars c.wide
+  pub enough : IsWideEnough dp w dp.vars c.wide
   pub room : room_for dp kind c.wide ≤ c.room
 
 -- a list for the width; a refused width exactly where it is not positive or does not fit

@@ -1,25 +1,15 @@
 ghost use Rattle.std.specs.Prelude.{◌≡◌, ◌<◌, ◌≤◌, ◌*◌, ◌^◌, IfOk};
 ghost use Rattle.dp_model.specs.declared.limits.TheConstants.{MOST_WIDTH};
 ghost use Rattle.layer_build.specs.Layers.{IsWidth};
-ghost use Rattle.exact_cutset.specs.Prepared.{AreEnoughChildren, IsListPreparedFor, IsListPrepared, room_for};
+ghost use Rattle.relaxed_dd.specs.Cut.{IsWideEnough};
+ghost use Rattle.exact_cutset.specs.Prepared.{IsListPreparedFor, IsListPrepared, room_for};
 
 use crate::filled::Children;
 use crate::listed::Listed;
 use dp_model::{CutKind, DpModel, OutOfMemory};
 use layer_build::{PrepareError, greatest_width};
+use relaxed_dd::widest_layer;
 use std::alloc::Global;
-
-/// How many nodes a layer above the last one has at most: as many as the width, and the one below the first as many as choices.
-fn widest<M: DpModel>(model: &M, width: usize) -> usize
-    ensures enough { AreEnoughChildren (M.meaning (M.numbers model.now)) width (M.meaning (M.numbers model.now)).vars result }
-    ensures few { width ≤ MOST_WIDTH → result ≤ MOST_WIDTH }
-{
-    let mut widest = width;
-    'layers: for k in 0..model.vars() {
-        widest = widest.max(model.choices(k) as usize);
-    }
-    widest
-}
 
 /// How many children of the kind a diagram leaves at most whose layers have this many nodes.
 fn room_for<M: DpModel>(model: &M, kind: CutKind, wide: usize) -> usize
@@ -42,7 +32,7 @@ fn prepare_list<M: DpModel>(
     wide: usize,
 ) -> Result<Listed, OutOfMemory>
     requires width { IsWidth (M.meaning (M.numbers model.now)) width }
-    requires enough { AreEnoughChildren (M.meaning (M.numbers model.now)) width (M.meaning (M.numbers model.now)).vars wide }
+    requires enough { IsWideEnough (M.meaning (M.numbers model.now)) width (M.meaning (M.numbers model.now)).vars wide }
     requires few { wide ≤ MOST_WIDTH }
     ensures prepared { IfOk result (λ c. IsListPreparedFor (M.meaning (M.numbers model.now)) width kind c) }
     ensures wide { IfOk result (λ c. c.wide ≡ wide) }
@@ -95,7 +85,7 @@ impl Children {
         requires { IsWidth (M.meaning (M.numbers model.now)) width }
         ensures { IfOk result (λ c. IsListPreparedFor (M.meaning (M.numbers model.now)) width kind c) }
     {
-        let wide = widest(model, width);
+        let wide = widest_layer(model, width);
         Ok(Children {
             list: prepare_list(alloc, model, width, kind, wide)?,
             above: Vec::with_capacity(alloc, wide)?,

@@ -23,15 +23,15 @@ pub record HasRoomFor (words room len : ℕ) (cells : List ℤ) (capacity : ℕ)
   pub whole : length cells ≡ len * words
   pub cells_fit : room * words ≤ capacity
 
--- this many rows are enough for a layer of the width, and for one below a single node of the first n layers
-pub record AreEnoughRows (dp : Dp) (w n room : ℕ) : Type 0 where
-  pub width : w ≤ room
-  pub choices : (k : ℕ) → k < n → dp.choices k ≤ room
+-- this many nodes are as many as a layer of the width has at most, and as one below a single node of the first n layers
+pub record IsWideEnough (dp : Dp) (w n wide : ℕ) : Type 0 where
+  pub width : w ≤ wide
+  pub choices : (k : ℕ) → k < n → dp.choices k ≤ wide
 
 -- there is room for the rows of any layer above the last one, in a diagram of the program and the width
 pub record HasCutRoom (dp : Dp) (w : ℕ) (c : CutView) : Type 0 where
   pub words : c.words ≡ dp.words
-  pub enough : AreEnoughRows dp w dp.vars c.room
+  pub enough : IsWideEnough dp w dp.vars c.room
 
 -- the rows of a layer
 abbrev pub rows_of : List DdNode → List (List ℤ)

@@ -3,7 +3,7 @@
 ghost use Rattle.std.specs.Prelude.{◌≡◌, ◌+◌, ◌<◌, ◌≤◌, ◌++◌, [], ◌∷◌, Some, IfOk, length, slice_get, vec_capacity};
 ghost use Rattle.dp_model.specs.declared.limits.TheConstants.{MOST_WIDTH};
 ghost use Rattle.layer_build.specs.Layers.{IsWidth};
-ghost use Rattle.relaxed_dd.specs.Cut.{AreEnoughRows, HasCutRoom};
+ghost use Rattle.relaxed_dd.specs.Cut.{IsWideEnough, HasCutRoom};
 
 use dp_model::{DpModel, OutOfMemory};
 use std::alloc::Global;
@@ -35,8 +35,8 @@ impl Model for CutRows {
 }
 
 /// How many nodes a layer above the last one has at most: as many as the width, and the one below the first as many as choices.
-fn widest<M: DpModel>(model: &M, width: usize) -> usize
-    ensures enough { AreEnoughRows (M.meaning (M.numbers model.now)) width (M.meaning (M.numbers model.now)).vars result }
+pub fn widest_layer<M: DpModel>(model: &M, width: usize) -> usize
+    ensures enough { IsWideEnough (M.meaning (M.numbers model.now)) width (M.meaning (M.numbers model.now)).vars result }
     ensures few { width ≤ MOST_WIDTH → result ≤ MOST_WIDTH }
 {
     let mut widest = width;
@@ -66,7 +66,7 @@ impl CutRows {
         ensures { IfOk result (λ c. HasCutRoom (M.meaning (M.numbers model.now)) width c) }
     {
         let words = model.words();
-        let room = widest(model, width);
+        let room = widest_layer(model, width);
         Ok(CutRows {
             words,
             room,

@@ -29,7 +29,7 @@ mod suffixes;
 mod widely;
 
 pub use compiling::{compile, relaxed, shown};
-pub use cut::CutRows;
+pub use cut::{CutRows, widest_layer};
 pub use diagram::Diagram;
 pub use lean::compile_lean;
 pub use widely::{compile_with, relaxed_with};

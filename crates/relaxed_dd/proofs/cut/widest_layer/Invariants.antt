@@ -1,5 +1,5 @@
 use Rattle.std.proofs.Common.{◌<◌, ◌≤◌, ◌^◌, ℕ}
-use Rattle.exact_cutset.proofs.preparing.widest.Given as goal
+use Rattle.relaxed_dd.proofs.cut.widest_layer.Given as goal
 
 abbrev pub invariant-layers : goal.invariant-layers
 invariant-layers g l = record {
