@@ -6,6 +6,7 @@ use Rattle.dp_model.specs.Subproblem.{SubView}
 use Rattle.layer_build.specs.Layers.{IsWidth, IsPreparedFor}
 use Rattle.layer_build.specs.declared.workspace.PrepareError.{PrepareError}
 use Rattle.layer_build.specs.declared.workspace.PrepareError.TheVariants.{Width, OutOfMemory}
+use Rattle.relaxed_dd.specs.Cut.{HasCutRoom}
 use Rattle.exact_cutset.specs.Prepared as cutsets
 use Rattle.exact_cutset.specs.Seen.{ChildrenView}
 use Rattle.search_workers.specs.Collected.{MayBeBook}
@@ -20,12 +21,14 @@ pub record CanHold (dp : Dp) (h : SubView) : Type 0 where
   pub decisions : dp.vars ≤ h.room
   pub cells : length h.subproblem.row ≡ dp.words
 
--- the desk has room for a subproblem of the instance, and for diagrams of the width and their children of its kind
+-- the desk has room for a subproblem of the instance, and for diagrams of the width, their children of its kind and the rows of their last
+-- exact layer
 pub record HasDeskRoom (dp : Dp) (w : ℕ) (desk : Desk) : Type 0 where
   pub taken : CanHold dp desk.taken
   pub space : IsPreparedFor dp desk.space
   pub width : desk.space.width ≡ w
   pub cutset : HoldsChildren dp w desk.kind desk.cutset
+  pub cut : HasCutRoom dp w desk.cut
 
 -- a desk with room for the rounds on an instance, nothing of an earlier round on it, and in its book diagrams of the instance alone
 pub record IsPreparedDesk (dp : Dp) (w : ℕ) (desk : Desk) : Type 0 where

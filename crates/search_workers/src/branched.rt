@@ -7,6 +7,6 @@ pub struct Branched {
     pub threshold: Option<i64>,
     /// The children, which may take the place of the subproblem.
     pub children: Vec<Sub>,
-    /// Whether the relaxed diagram of the subproblem lies on the desk, with its children.
+    /// Whether the relaxed diagram of the subproblem lies on the desk whole, with its children.
     pub on_desk: bool,
 }

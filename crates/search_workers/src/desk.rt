@@ -1,4 +1,5 @@
-ghost use Rattle.std.specs.Prelude.{◌≡◌, ◌<◌, ◌≤◌, IfOk};
+ghost use Rattle.std.specs.Prelude.{◌≡◌, ◌<◌, ◌≤◌, true, None, IfOk};
+ghost use Rattle.dp_model.specs.declared.cut_kind.CutKind.TheVariants.{LastExactLayer};
 ghost use Rattle.dp_model.specs.declared.limits.TheConstants.{MOST_LAYER_PARTS};
 ghost use Rattle.search_workers.specs.Collected.{MayBeBook};
 ghost use Rattle.search_workers.specs.Prepared.{AreDesks};
@@ -9,17 +10,20 @@ use cover_pages::CoverBook;
 use dp_model::{CutKind, DpModel, Sub};
 use exact_cutset::Children;
 use layer_build::{PrepareError, Workspace};
+use relaxed_dd::CutRows;
 use std::alloc::Global;
 
 /// All that one worker needs for its rounds: the subproblem that it took last, with its ticket if it is under a turn, the memory in which
-/// diagrams are compiled, their children and of which kind these are, a buffer for fates, which grows to the size that rounds need and is
-/// used again, perhaps a book that collects the relaxed diagrams, and in how many parts the layers of these are made.
+/// diagrams are compiled, their children and of which kind these are, the rows of a last exact layer, a buffer for fates, which grows to
+/// the size that rounds need and is used again, perhaps a book that collects the relaxed diagrams, and in how many parts the layers of
+/// these are made.
 #[derive(Drop)]
 pub struct Desk {
     pub taken: Sub,
     pub ticket: Option<u64>,
     pub space: Workspace,
     pub cutset: Children,
+    pub cut: CutRows,
     pub kind: CutKind,
     pub fates: Vec<Fate>,
     pub book: Option<CoverBook>,
@@ -49,18 +53,33 @@ impl Desk {
     {
         let space = Workspace::prepare(alloc, model, width)?;
         let cutset = Children::prepare(alloc, model, width, kind)?;
+        let Ok(cut) = CutRows::prepare(alloc, model, width as usize) else {
+            return Err(PrepareError::OutOfMemory);
+        };
         match Sub::blank(alloc, model.vars(), model.words()) {
             Ok(taken) => Ok(Desk {
                 taken,
                 ticket: None,
                 space,
                 cutset,
+                cut,
                 kind,
                 fates: Vec::new(alloc),
                 book,
                 parts: Parts::new(parts),
             }),
             Err(_) => Err(PrepareError::OutOfMemory),
+        }
+    }
+
+    /// Whether rounds under a turn need no rows of a relaxed diagram but those of its last exact layer.
+    pub(crate) fn needs_cut_alone(&self) -> bool
+        ensures kind { result ≡ true → self.now.kind ≡ LastExactLayer }
+        ensures book { result ≡ true → self.now.book ≡ None }
+    {
+        match self.kind {
+            CutKind::LastExactLayer => self.book.is_none(),
+            CutKind::Frontier => false,
         }
     }
 

@@ -6,9 +6,11 @@
 //! diagram is compiled with the reach as it is then; the solution that it finds is offered, and its children are those of the kind
 //! that the desk was prepared for.
 //!
-//! Two fields of a desk concern `work` alone; `explore` ignores them. If the desk has a book, `work` puts the relaxed diagram into it once
-//! the subproblem is finished, and compiles that diagram for every subproblem. `parts` says in how many parts `work` makes the layers of
-//! relaxed diagrams; the diagrams do not depend on it.
+//! Three fields of a desk concern `work` alone; `explore` ignores them. If the desk has a book, `work` puts the relaxed diagram into it once
+//! the subproblem is finished, and compiles that diagram for every subproblem. If it has none and its children are those of the last exact
+//! layer, `work` lets go of the rows of each layer once the next one is made, and reads those of the last exact layer from `cut`; the
+//! children do not depend on it. `parts` says in how many parts `work` makes the layers of relaxed diagrams; the diagrams do not depend on
+//! it.
 //!
 //! The crate stands on `kept_board` for the board, on `turn` for sharing it, on `layer_build`, `restricted_dd`, `relaxed_dd`, `wide_layers` and
 //! `exact_cutset` for diagrams and their children, and on `cover_pages` for books.

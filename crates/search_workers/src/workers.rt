@@ -8,6 +8,7 @@
 
 mod crew;
 mod fanning;
+mod filling;
 mod gate;
 mod holding_finish;
 mod holding_give_back;

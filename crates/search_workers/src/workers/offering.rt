@@ -1,6 +1,6 @@
 //! What a worker does with the solutions of its diagrams, and the children that are left.
 
-ghost use Rattle.std.specs.Prelude.{◌≡◌, false, [], is_some, OnOk, IfOk, IfErr};
+ghost use Rattle.std.specs.Prelude.{◌≡◌, false, [], is_some, IsSome, OnOk, IfOk, IfErr};
 ghost use Rattle.turn.specs.Order.{NoLess};
 ghost use Rattle.turn.specs.Seats.{first_of, seen_of, out_of};
 ghost use Rattle.dp_model.specs.Numbers.{OptionAtMost};
@@ -21,11 +21,11 @@ ghost use Rattle.search_workers.specs.Taken.{taken_from};
 ghost use Rattle.search_workers.specs.Stopped.{IsLeftOut, HasLeft, WasStopped};
 
 use super::crew::Crew;
+use super::filling::fill_desk;
 use super::gate::{Gate, Step};
 use super::holding_improve::improve_one;
 use super::stopped::Stopped;
 use crate::desk::Desk;
-use crate::rounds::fill_with;
 use disk::Disk;
 use dp_model::{DpModel, Found};
 use kept_board::Kept;
@@ -116,33 +116,6 @@ pub fn restrict_one<M: DpModel, D: Disk + Send, G: Gate, R: Wait>(
     Ok(Restricted { reduced, reach })
 }
 
-/// Compiles the relaxed diagram of the subproblem on the desk outside the turn, its layers in as many parts as the desk says, and fills
-/// the list of the desk with its children and with the solution that it finds, as `fill_with` does.
-pub fn fill_desk<M: DpModel, D: Disk + Send, G, R: Threads + Sync>(
-    crew: &Crew<'_, M, D, G, R>,
-    desk: &mut Desk,
-    threshold: Option<i64>,
-)
-    requires own { IsOwn (M.meaning (M.numbers crew.now.model.now)) desk.old.taken.subproblem }
-    requires room { HasDeskRoom (M.meaning (M.numbers crew.now.model.now)) (first_of crew.now.turn.now).board.board.settings.width desk.old }
-    ensures subs { desk.new.cutset.subs ≡ taken_from (M.meaning (M.numbers crew.now.model.now)) (relaxed (M.meaning (M.numbers crew.now.model.now)) (reached (M.meaning (M.numbers crew.now.model.now)) desk.old.taken.subproblem.decisions) desk.old.space.width threshold) desk.old.kind }
-    ensures found { desk.new.cutset.found ≡ found_in (M.meaning (M.numbers crew.now.model.now)) (relaxed (M.meaning (M.numbers crew.now.model.now)) (reached (M.meaning (M.numbers crew.now.model.now)) desk.old.taken.subproblem.decisions) desk.old.space.width threshold) }
-    ensures holds { HoldsDiagram (M.meaning (M.numbers crew.now.model.now)) desk.new.space desk.new.cutset }
-    ensures room { HasDeskRoom (M.meaning (M.numbers crew.now.model.now)) (first_of crew.now.turn.now).board.board.settings.width desk.new }
-    ensures rest { desk.new ≡ record desk.old { space = desk.new.space; cutset = desk.new.cutset } }
-{
-    let mut expander = desk.parts.expander(crew.rt, crew.alloc);
-    fill_with(
-        &mut desk.space,
-        &mut desk.cutset,
-        &desk.taken,
-        threshold,
-        desk.kind,
-        crew.model,
-        &mut expander,
-    );
-}
-
 /// Compiles the relaxed diagram of the subproblem on the desk, with the reach by what the seat has seen as threshold, fills the list of
 /// the desk with its children, as `fill_desk` does, and offers the solution that it finds.
 ///
@@ -169,11 +142,11 @@ pub fn relax_one<M: DpModel, D: Disk + Send, G: Gate, R: Threads + Wait + Sync>(
     ensures subs { OnOk result (desk.new.cutset.subs ≡ taken_from (M.meaning (M.numbers crew.now.model.now)) (relaxed (M.meaning (M.numbers crew.now.model.now)) (reached (M.meaning (M.numbers crew.now.model.now)) desk.old.taken.subproblem.decisions) desk.old.space.width reach) desk.old.kind) }
     ensures found { OnOk result (OptionAtMost (found_value (found_in (M.meaning (M.numbers crew.now.model.now)) (relaxed (M.meaning (M.numbers crew.now.model.now)) (reached (M.meaning (M.numbers crew.now.model.now)) desk.old.taken.subproblem.decisions) desk.old.space.width reach))) (reach_seen crew.now.turn.now seat.new)) }
     ensures branched { OnOk result (AreBranched (M.meaning (M.numbers crew.now.model.now)) (first_of crew.now.turn.now).board.board.settings.width (reach_seen crew.now.turn.now seat.new) desk.old.taken.subproblem.decisions reach desk.new.cutset.subs) }
-    ensures holds { HoldsDiagram (M.meaning (M.numbers crew.now.model.now)) desk.new.space desk.new.cutset }
+    ensures holds { IsSome desk.old.book → HoldsDiagram (M.meaning (M.numbers crew.now.model.now)) desk.new.space desk.new.cutset }
     ensures stopped { IfErr result (λ stopped. IsLeftOut stopped (out_of seat.old) (out_of seat.new)) }
     ensures why { IfErr result (WasStopped D.Disk M.meaning crew.now.turn.now seat.old seat.new) }
     ensures room { HasDeskRoom (M.meaning (M.numbers crew.now.model.now)) (first_of crew.now.turn.now).board.board.settings.width desk.new }
-    ensures rest { desk.new ≡ record desk.old { space = desk.new.space; cutset = desk.new.cutset } }
+    ensures rest { desk.new ≡ record desk.old { space = desk.new.space; cutset = desk.new.cutset; cut = desk.new.cut } }
 {
     fill_desk(crew, desk, reach);
     let _ = offer_one(crew, seat, desk.cutset.found(), reach)?;

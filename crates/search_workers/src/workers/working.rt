@@ -14,12 +14,13 @@ ghost use Rattle.search_workers.specs.Taken.{AreOfDiagrams};
 ghost use Rattle.search_workers.specs.Stopped.{IsLeftOut, HasLeft, WasStopped, HasEndedAt};
 
 use super::crew::Crew;
+use super::filling::fill_desk;
 use super::gate::{Gate, Step};
 use super::holding_finish::finish_one;
 use super::holding_give_back::give_up;
 use super::holding_snapshot::snapshot_one;
 use super::holding_take::take_one;
-use super::offering::{fill_desk, relax_one, restrict_one};
+use super::offering::{relax_one, restrict_one};
 use super::stopped::Stopped;
 use crate::branched::Branched;
 use crate::collecting::collect_from;
@@ -191,7 +192,7 @@ fn fill_for_book<M: DpModel, D: Disk + Send, G, R: Threads + Sync>(
     requires room { HasDeskRoom (M.meaning (M.numbers crew.now.model.now)) (first_of crew.now.turn.now).board.board.settings.width desk.old }
     ensures holds { result ≡ true → HoldsDiagram (M.meaning (M.numbers crew.now.model.now)) desk.new.space desk.new.cutset }
     ensures room { HasDeskRoom (M.meaning (M.numbers crew.now.model.now)) (first_of crew.now.turn.now).board.board.settings.width desk.new }
-    ensures rest { desk.new ≡ record desk.old { space = desk.new.space; cutset = desk.new.cutset } }
+    ensures rest { desk.new ≡ record desk.old { space = desk.new.space; cutset = desk.new.cutset; cut = desk.new.cut } }
 {
     if desk.book.is_none() {
         return false;
@@ -241,7 +242,7 @@ fn branch<M: DpModel, D: Disk + Send, G: Gate + Sync, R: Threads + Wait + Sync>(
         Ok(children) => Ok(Branched {
             threshold: restricted.reach,
             children,
-            on_desk: true,
+            on_desk: desk.book.is_some(),
         }),
         Err(_) => Err(Stopped::Refused(KeptError::OutOfMemory)),
     }

@@ -46,6 +46,7 @@ returns-in-Sub-clause-prepared g c =
         space = room.space;
         width = room.width;
         cutset = room.cutset;
+        cut = room.cut;
       };
       no_fates = c.requires.prepared.no_fates;
       book = c.requires.prepared.book;
