@@ -1,16 +1,20 @@
 -- Suffixes of nodes in memory, one after another.
 use Rattle.std.proofs.Common.{◌≡◌, ℕ, zero, suc, ◌+◌, ◌<◌, ◌≤◌, ℤ, pos, ◌+ℤ◌, List, [], ◌∷◌, length, map, take, set, get_or, Option, Some, refl, sym, ◌∙◌, ap, ap₂, subst, arith}
-use Rattle.std.proofs.lemmas.List.{take_more, length-map}
+use Rattle.std.proofs.lemmas.List.{map_more, length-map}
 use Rattle.std.proofs.lemmas.List.Elements.{filter_map-append}
 use Rattle.dp_model.specs.Lists.{Each}
 use Rattle.dp_model.specs.Numbers.{add_some, greatest}
 use Rattle.dp_laws.specs.declared.arc.DdArc.{DdArc}
 use Rattle.layer_nodes.specs.declared.node.Node.{Node}
+use Rattle.layer_nodes.specs.declared.routing.Route.{Route}
+use Rattle.layer_nodes.specs.declared.routing.StoredArc.{StoredArc}
 use Rattle.layer_nodes.specs.Nodes.{NodeView, LayerView}
 use Rattle.layer_nodes.specs.Ending.{suffix_of, lengths, MayAdd, MayFollow, MayLead, MayEnd, ended, ended_layer, at_end, suffixes_in, arcs_in, ended_in, at_end_in}
 use Rattle.layer_nodes.specs.Merging.{greater}
+use Rattle.layer_nodes.specs.Routing.{routed, routed_arcs}
 use Rattle.layer_nodes.specs.Stored.{node_view_by, HasArcsIn, HasLayer}
 use Rattle.layer_nodes.proofs.Merged.{greatest-option}
+use Rattle.layer_nodes.proofs.Routed.{routed-lie}
 use Rattle.layer_nodes.proofs.Stored.{each-get}
 
 -- ---- a target
@@ -33,15 +37,23 @@ lead-suffix (n ∷ nodes) (suc i) d less = lead-suffix nodes i d (omega arith)
 
 -- ---- the arcs of a node
 
+-- one of them, as it is read
+pub routed-get : (P : DdArc → Type 0) (routes : List Route) (arcs : List StoredArc) (i : ℕ) (d : StoredArc) → Each P (routed_arcs routes arcs) → i < length arcs → P (routed routes (get_or arcs i d))
+routed-get P routes [] i d h less = absurd (omega arith)
+routed-get P routes (arc ∷ arcs) zero d h less = h.0
+routed-get P routes (arc ∷ arcs) (suc i) d h less = routed-get P routes arcs i d h.1 (omega arith)
+
 -- one arc more
-pub longer-more : (suffixes : List (Option ℤ)) (arcs : List DdArc) (i : ℕ) (d : DdArc) (best best2 : Option ℤ) → i < length arcs → best ≡ greatest (lengths suffixes (take i arcs))
-    → best2 ≡ greater best (add_some ((get_or arcs i d).gain +ℤ (get_or arcs i d).longer) (suffix_of suffixes (get_or arcs i d).target)) → best2 ≡ greatest (lengths suffixes (take (i + 1) arcs))
-longer-more suffixes arcs i d best best2 less h e =
-    let arc = get_or arcs i d in
+pub longer-more : (suffixes : List (Option ℤ)) (routes : List Route) (arcs : List StoredArc) (i : ℕ) (d : StoredArc) (best best2 : Option ℤ) → i < length arcs → best ≡ greatest (lengths suffixes (routed_arcs routes (take i arcs)))
+    → best2 ≡ greater best (add_some ((routed routes (get_or arcs i d)).gain +ℤ (routed routes (get_or arcs i d)).longer) (suffix_of suffixes (routed routes (get_or arcs i d)).target))
+    → best2 ≡ greatest (lengths suffixes (routed_arcs routes (take (i + 1) arcs)))
+longer-more suffixes routes arcs i d best best2 less h e =
+    let arc = routed routes (get_or arcs i d) in
+    let before = routed_arcs routes (take i arcs) in
     let length_of : DdArc → Option ℤ = λ a. add_some (a.gain +ℤ a.longer) (suffix_of suffixes a.target) in
     e ∙ (ap (λ b. greater b (length_of arc)) h
-    ∙ sym (ap (λ l. greatest (lengths suffixes l)) (take_more arcs i d less)
-    ∙ (ap greatest (filter_map-append length_of (take i arcs) (arc ∷ [])) ∙ greatest-option (lengths suffixes (take i arcs)) (length_of arc))))
+    ∙ sym (ap (λ l. greatest (lengths suffixes l)) (map_more (routed routes) arcs i d less)
+    ∙ (ap greatest (filter_map-append length_of before (arc ∷ [])) ∙ greatest-option (lengths suffixes before) (length_of arc))))
 
 -- ---- the nodes of a layer
 
@@ -119,30 +131,33 @@ last-views row arcs [] = refl
 last-views row arcs (node ∷ nodes) = ap (λ l. at_end (node_view_by row arcs node) ∷ l) (last-views row arcs nodes)
 
 -- a node lies where it lay
-ended-lie : (arcs : List DdArc) (suffixes : List (Option ℤ)) (nodes : List Node) → Each (HasArcsIn arcs) nodes → Each (HasArcsIn arcs) (map (ended_in arcs suffixes) nodes)
-ended-lie arcs suffixes [] h = tt
-ended-lie arcs suffixes (node ∷ nodes) h = (h.0, ended-lie arcs suffixes nodes h.1)
+ended-lie : (stored : List StoredArc) (arcs : List DdArc) (suffixes : List (Option ℤ)) (nodes : List Node) → Each (HasArcsIn stored) nodes → Each (HasArcsIn stored) (map (ended_in arcs suffixes) nodes)
+ended-lie stored arcs suffixes [] h = tt
+ended-lie stored arcs suffixes (node ∷ nodes) h = (h.0, ended-lie stored arcs suffixes nodes h.1)
 
-pub last-lie : (arcs : List DdArc) (nodes : List Node) → Each (HasArcsIn arcs) nodes → Each (HasArcsIn arcs) (map at_end_in nodes)
+pub last-lie : (arcs : List StoredArc) (nodes : List Node) → Each (HasArcsIn arcs) nodes → Each (HasArcsIn arcs) (map at_end_in nodes)
 last-lie arcs [] h = tt
 last-lie arcs (node ∷ nodes) h = (h.0, last-lie arcs nodes h.1)
 
 -- ---- a layer, above one whose nodes are seen with these suffixes
 
-module _ (words room nodes_room arcs_room : ℕ) (row : ℕ → List ℤ) (arcs : List DdArc) (nodes : List Node) (layer : LayerView) (seen : record { words = words; nodes = map (node_view_by row arcs) nodes; nodes_room = room; arcs_room = arcs_room } ≡ layer)
-    (kept : HasLayer room nodes nodes_room arcs) (suffixes : List (Option ℤ)) (arcs2 : List DdArc) (below nodes2 : List Node) (arcs_are : arcs2 ≡ arcs) (nodes_are : nodes2 ≡ nodes) (below_are : suffixes_in below ≡ suffixes) where
+module _ (words room nodes_room arcs_room routes_room : ℕ) (row : ℕ → List ℤ) (routes : List Route) (stored : List StoredArc) (nodes : List Node) (layer : LayerView) (seen : record { words = words; nodes = map (node_view_by row (routed_arcs routes stored)) nodes; nodes_room = room; arcs_room = arcs_room } ≡ layer)
+    (kept : HasLayer room nodes nodes_room stored arcs_room routes_room) (suffixes : List (Option ℤ)) (arcs2 : List DdArc) (below nodes2 : List Node) (arcs_are : arcs2 ≡ routed_arcs routes stored) (nodes_are : nodes2 ≡ nodes) (below_are : suffixes_in below ≡ suffixes) where
+  abbrev arcs : List DdArc
+  arcs = routed_arcs routes stored
+
   pub layer-ends : Each (λ (node : NodeView). Each MayAdd node.arcs) layer.nodes → Each (λ (node : NodeView). Each (λ (arc : DdArc). MayLead suffixes arc.target) node.arcs) layer.nodes → Each (MayEnd arcs2 (suffixes_in below)) nodes2
   layer-ends add lead =
       let views = sym (ap (λ (l : LayerView). l.nodes) seen) in
-      let all = may-end row arcs suffixes nodes kept.arcs_lie (subst (Each (λ (node : NodeView). Each MayAdd node.arcs)) views add)
+      let all = may-end row arcs suffixes nodes (routed-lie routes stored nodes kept.arcs_lie) (subst (Each (λ (node : NodeView). Each MayAdd node.arcs)) views add)
       (subst (Each (λ (node : NodeView). Each (λ (arc : DdArc). MayLead suffixes arc.target) node.arcs)) views lead) in
       subst (Each (MayEnd arcs2 (suffixes_in below))) (sym nodes_are) (subst (λ s. Each (MayEnd arcs2 s) nodes) (sym below_are) (subst (λ a. Each (MayEnd a suffixes) nodes) (sym arcs_are) all))
 
   -- the nodes became these, and the layer is that of the rules
   pub record IsEnded (new : List Node) : Type 0 where
     pub size : length new ≡ length nodes
-    pub stays : HasLayer room new nodes_room arcs
-    pub ended : record { words = words; nodes = map (node_view_by row arcs) new; nodes_room = room; arcs_room = arcs_room } ≡ ended_layer suffixes layer
+    pub stays : HasLayer room new nodes_room stored arcs_room routes_room
+    pub ended : record { words = words; nodes = map (node_view_by row (routed_arcs routes stored)) new; nodes_room = room; arcs_room = arcs_room } ≡ ended_layer suffixes layer
 
   pub layer-ended : (new : List Node) → new ≡ map (ended_in arcs2 (suffixes_in below)) nodes2 → IsEnded new
   layer-ended new is =
@@ -151,12 +166,13 @@ module _ (words room nodes_room arcs_room : ℕ) (row : ℕ → List ℤ) (arcs 
       let with_nodes : List NodeView → LayerView = λ ns. record { words = words; nodes = ns; nodes_room = room; arcs_room = arcs_room } in
       record {
         size = ap length mapped ∙ long;
-        stays = subst (λ l. HasLayer room l nodes_room arcs) (sym mapped) (record {
+        stays = subst (λ l. HasLayer room l nodes_room stored arcs_room routes_room) (sym mapped) (record {
           small = kept.small;
           fits = (let fit = kept.fits in omega arith);
           nodes_hold = kept.nodes_hold;
           few_arcs = kept.few_arcs;
-          arcs_lie = ended-lie arcs suffixes nodes kept.arcs_lie;
+          routes_hold = kept.routes_hold;
+          arcs_lie = ended-lie stored arcs suffixes nodes kept.arcs_lie;
         });
-        ended = ap with_nodes (ap (map (node_view_by row arcs)) mapped ∙ ended-views row arcs suffixes nodes) ∙ ap (ended_layer suffixes) seen;
+        ended = ap with_nodes (ap (map (node_view_by row (routed_arcs routes stored))) mapped ∙ ended-views row arcs suffixes nodes) ∙ ap (ended_layer suffixes) seen;
       }

@@ -33,13 +33,17 @@ use Rattle.layer_candidates.proofs.HeldRows.{held-is}
 use Rattle.layer_candidates.proofs.Layered.{has-table}
 use Rattle.layer_candidates.proofs.Sorted.{key-row, keys-are, in-order, length-keys}
 use Rattle.layer_nodes.specs.declared.node.Node.{Node}
+use Rattle.layer_nodes.specs.declared.routing.Route.{Route}
+use Rattle.layer_nodes.specs.declared.routing.StoredArc.{StoredArc}
 use Rattle.row_region.specs.Region.{RegionView, IsLive}
 use Rattle.layer_nodes.specs.Holding.{AreHeld, HaveRows}
 use Rattle.layer_nodes.specs.Nodes.{NodeView, shown, shown_from, shown_layer, shown_below, without_arcs}
 use Rattle.layer_nodes.specs.Stored.{node_view_by, rows_in, HasArcsIn}
 use Rattle.layer_nodes.specs.Steps.{IsParent, IsRanked}
-use Rattle.layer_nodes.specs.Expanding.{Trial, trial, trials_at, trials_of, all_spanned, arc_to, LeadsToRow, AreArcsOf, all_exact, mark_at, AreTried, key_in, IsNumbered, led, node_of, member_of, members_from, AreArranged, IsExpanded}
+use Rattle.layer_nodes.specs.Expanding.{Trial, trial, trials_at, trials_of, all_spanned, arc_to, LeadsToRow, AreArcsOf, all_exact, mark_at, AreTried, key_in, IsNumbered, node_of, member_of, members_from, AreArranged, IsExpanded}
+use Rattle.layer_nodes.specs.Routing.{routed, routed_arcs, to_way, to_ways}
 use Rattle.layer_nodes.proofs.Holding.{views-held}
+use Rattle.layer_nodes.proofs.Routed.{led, routed-led}
 use Rattle.layer_nodes.proofs.Spans.{length-spanned}
 use Rattle.layer_nodes.proofs.Tried.{length-arcs}
 
@@ -95,9 +99,9 @@ place-of next j row apart h =
 abbrev arc_with : DdArc → Option ℕ → DdArc
 arc_with arc target = record arc { target = target }
 
-module _ (dp : Dp) (k : ℕ) (row : ℕ → List ℤ) (count : ℕ) (next : List DdNode) (keys : List Key) (places : List ℕ) (apart : RowsApart next)
-    (rows-are : map (λ (n : DdNode). n.row) next ≡ map (λ (key : Key). row key.place) keys) (numbered : (p : ℕ) → p < count → IsNumbered (length keys) keys places p) where
-  arc-led : (s : List ℤ) (exact : Bool) (d : ℕ) (arc : DdArc) → LeadsToRow dp k row count (trial s exact d) arc → led places arc ≡ arc_of dp k next s d
+module _ (dp : Dp) (k : ℕ) (row : ℕ → List ℤ) (count : ℕ) (next : List DdNode) (keys : List Key) (routes : List Route) (apart : RowsApart next)
+    (rows-are : map (λ (n : DdNode). n.row) next ≡ map (λ (key : Key). row key.place) keys) (numbered : (p : ℕ) → p < count → IsNumbered (length keys) keys routes p) where
+  arc-led : (s : List ℤ) (exact : Bool) (d : ℕ) (arc : DdArc) → LeadsToRow dp k row count (trial s exact d) arc → led routes arc ≡ arc_of dp k next s d
   arc-led s exact d arc h =
       let t = trial s exact d in
       let n = numbered h.place h.within in
@@ -105,7 +109,7 @@ module _ (dp : Dp) (k : ℕ) (row : ℕ → List ℤ) (count : ℕ) (next : List
       ap (λ l. slice_get l n.number) rows-are ∙ (slice_get-map (λ (key : Key). row key.place) keys n.number
       ∙ (ap (λ o. option_and_then (λ (key : Key). Some (row key.place)) o) (slice_get-get_or keys n.number (key_in [] 0) n.within)
       ∙ ap Some (ap row n.same ∙ h.made))) in
-      ap (led places) h.is ∙ (ap (arc_with (arc_to dp k t h.place)) n.is ∙ ap (arc_with (arc_to dp k t h.place)) (sym (place-of next n.number (dp.step k s d) apart there)))
+      ap (led routes) h.is ∙ (ap (arc_with (arc_to dp k t h.place)) n.is ∙ ap (arc_with (arc_to dp k t h.place)) (sym (place-of next n.number (dp.step k s d) apart there)))
 
 -- Arcs that are changed to those that a rule names.
 
@@ -255,12 +259,15 @@ keys-bare ways marks any (key ∷ ks) = ((omega arith), keys-bare ways marks any
 -- The whole.
 
 module _ (dp : Dp) (k : ℕ) (low : k < dp.vars) (region : RegionView) (old : List DdArc) (nodes : List Node) (new : RegionView) (ways : List Way)
-    (marks : List Bool) (arcs led_arcs : List DdArc) (nodes2 below : List Node)
+    (marks : List Bool) (arcs : List StoredArc) (routes : List Route) (nodes2 below : List Node)
     (distinct : AreDistinct dp (k + 1) (way_row new ways) ways)
     (list : (paths : ℕ → List ℕ) → all_reached paths (way_row new ways) ways ≡ all_joined [] (candidates dp k (members_as paths region (members_from 0 nodes))))
-    (tried : AreTried dp k (way_row new ways) (length ways) (trials_of dp k (held_row region) nodes) marks arcs)
+    (tried : AreTried dp k (way_row new ways) (length ways) (trials_of dp k (held_row region) nodes) marks (to_ways arcs))
     (spans : nodes2 ≡ all_spanned dp k (held_row region) 0 nodes)
-    (arranged : AreArranged (held_row new) ways marks arcs led_arcs below) where
+    (arranged : AreArranged (held_row new) ways marks routes below) where
+  abbrev led_arcs : List DdArc
+  led_arcs = routed_arcs routes arcs
+
   abbrev keys : List Key
   keys = arranged.keys
 
@@ -284,34 +291,35 @@ module _ (dp : Dp) (k : ℕ) (low : k < dp.vars) (region : RegionView) (old : Li
   pub next-shown : (paths : ℕ → List ℕ) (any : List DdArc) → shown_below paths (map (node_view_by (held_row new) any) below) ≡ new_layer dp k (layer_of paths)
   next-shown paths any =
       ap (λ l. shown_below paths (map (node_view_by (held_row new) any) l)) arranged.nodes_are
-      ∙ (keys-shown dp k low region old nodes row ways marks arcs tried (held_row new) paths any keys layer-keys layer-found ∙ ap (map (node_for dp k (layer_of paths))) (order-is paths))
+      ∙ (keys-shown dp k low region old nodes row ways marks (to_ways arcs) tried (held_row new) paths any keys layer-keys layer-found ∙ ap (map (node_for dp k (layer_of paths))) (order-is paths))
 
   next-rows : (paths : ℕ → List ℕ) → map (λ (n : DdNode). n.row) (new_layer dp k (layer_of paths)) ≡ map (λ (key : Key). row key.place) keys
   next-rows paths = ap (λ l. map (λ (n : DdNode). n.row) (map (node_for dp k (layer_of paths)) l)) (sym (order-is paths)) ∙ rows-of dp k row ways (layer_of paths) paths keys
 
-  all-numbered : (p : ℕ) → p < length ways → IsNumbered (length keys) keys arranged.places p
+  all-numbered : (p : ℕ) → p < length ways → IsNumbered (length keys) keys routes p
   all-numbered p less =
-      each-has (λ (key : Key). IsNumbered (length keys) keys arranged.places key.place) keys (key_at ways p)
-      (each-at (λ (key : Key). IsNumbered (length keys) keys arranged.places key.place) keys
-      (λ j d in_keys. subst (λ (key : Key). IsNumbered (length keys) keys arranged.places key.place) (get_or-any keys j _ d in_keys) (arranged.numbered j in_keys)))
+      each-has (λ (key : Key). IsNumbered (length keys) keys routes key.place) keys (key_at ways p)
+      (each-at (λ (key : Key). IsNumbered (length keys) keys routes key.place) keys
+      (λ j d in_keys. subst (λ (key : Key). IsNumbered (length keys) keys routes key.place) (get_or-any keys j _ d in_keys) (arranged.numbered j in_keys)))
       (Has-permutation (keys_of ways) keys arranged.all (key_at ways p) (has-table (key_at ways) (length ways) p less))
 
   pub above-shown : (paths : ℕ → List ℕ) → shown_layer paths (map (node_view_by (held_row region) led_arcs) nodes2) ≡ with_arcs dp k (new_layer dp k (layer_of paths)) (layer_of paths)
   above-shown paths =
-      ap₂ (λ l m. shown_layer paths (map (node_view_by (held_row region) l) m)) arranged.arcs_are spans
-      ∙ above-from dp k row (length ways) (led arranged.places) (arc_of dp k (new_layer dp k (layer_of paths)))
-      (arc-led dp k row (length ways) (new_layer dp k (layer_of paths)) keys arranged.places (new-apart dp k (layer_of paths)) (next-rows paths) all-numbered)
-      (held_row region) old low paths 0 nodes 0 [] arcs refl tried.arcs_are
+      ap₂ (λ l m. shown_layer paths (map (node_view_by (held_row region) l) m)) (routed-led routes arcs arranged.plain) spans
+      ∙ above-from dp k row (length ways) (led routes) (arc_of dp k (new_layer dp k (layer_of paths)))
+      (arc-led dp k row (length ways) (new_layer dp k (layer_of paths)) keys routes (new-apart dp k (layer_of paths)) (next-rows paths) all-numbered)
+      (held_row region) old low paths 0 nodes 0 [] (to_ways arcs) refl tried.arcs_are
 
   pub above-rest : map without_arcs (map (node_view_by (held_row region) led_arcs) nodes2) ≡ map without_arcs (map (node_view_by (held_row region) old) nodes)
   above-rest = ap (λ m. map without_arcs (map (node_view_by (held_row region) led_arcs) m)) spans ∙ rest-stays dp k (held_row region) old led_arcs 0 nodes
 
   pub length-led : length led_arcs ≡ length arcs
-  length-led = ap length arranged.arcs_are ∙ length-map arcs (led arranged.places)
+  length-led = length-map arcs (routed routes)
 
   pub above-arcs : Each (HasArcsIn led_arcs) nodes2
   above-arcs =
-      let size = length-arcs dp k row (length ways) (trials_of dp k (held_row region) nodes) arcs tried.arcs_are in
+      let size = length-arcs dp k row (length ways) (trials_of dp k (held_row region) nodes) (to_ways arcs) tried.arcs_are in
+      let long = length-map arcs to_way in
       let same = length-led in
       subst (Each (HasArcsIn led_arcs)) (sym spans) (arcs-within dp k (held_row region) 0 led_arcs nodes (omega arith))
 
@@ -332,31 +340,29 @@ module _ (dp : Dp) (k : ℕ) (low : k < dp.vars) (region : RegionView) (old : Li
 
 -- the extended layer is put in order
 pub whole : (dp : Dp) (k : ℕ) → k < dp.vars → (region : RegionView) (nodes : List Node) (new : RegionView) (ways : List Way)
-    (marks : List Bool) (arcs led_arcs : List DdArc) (nodes2 below : List Node) → AreDistinct dp (k + 1) (way_row new ways) ways
+    (marks : List Bool) (arcs : List StoredArc) (routes : List Route) (nodes2 below : List Node) → AreDistinct dp (k + 1) (way_row new ways) ways
     → ((paths : ℕ → List ℕ) → all_reached paths (way_row new ways) ways ≡ all_joined [] (candidates dp k (members_as paths region (members_from 0 nodes))))
-    → AreTried dp k (way_row new ways) (length ways) (trials_of dp k (held_row region) nodes) marks arcs → nodes2 ≡ all_spanned dp k (held_row region) 0 nodes → length ways ≤ length nodes * dp.choices k
-    → length arcs ≤ length nodes * dp.choices k → AreArranged (held_row new) ways marks arcs led_arcs below → IsExpanded (expand dp k) dp k (held_row region) nodes nodes2 led_arcs (held_row new) below
-whole dp k low region nodes new ways marks arcs led_arcs nodes2 below distinct list tried spans few few_arcs arranged = record {
-  above_is = λ before paths. above-shown dp k low region before nodes new ways marks arcs led_arcs nodes2 below distinct list tried spans arranged paths;
-  next_is = λ before any paths. next-shown dp k low region before nodes new ways marks arcs led_arcs nodes2 below distinct list tried spans arranged paths any;
+    → AreTried dp k (way_row new ways) (length ways) (trials_of dp k (held_row region) nodes) marks (to_ways arcs) → nodes2 ≡ all_spanned dp k (held_row region) 0 nodes → length ways ≤ length nodes * dp.choices k
+    → length arcs ≤ length nodes * dp.choices k → AreArranged (held_row new) ways marks routes below → IsExpanded (expand dp k) dp k (held_row region) nodes nodes2 (routed_arcs routes arcs) (held_row new) below
+whole dp k low region nodes new ways marks arcs routes nodes2 below distinct list tried spans few few_arcs arranged = record {
+  above_is = λ before paths. above-shown dp k low region before nodes new ways marks arcs routes nodes2 below distinct list tried spans arranged paths;
+  next_is = λ before any paths. next-shown dp k low region before nodes new ways marks arcs routes nodes2 below distinct list tried spans arranged paths any;
   places = ap rows_in spans ∙ places-stay dp k (held_row region) 0 nodes;
-  rest = λ before. above-rest dp k low region before nodes new ways marks arcs led_arcs nodes2 below distinct list tried spans arranged;
-  ranked = λ any. next-ranked dp k low region any nodes new ways marks arcs led_arcs nodes2 below distinct list tried spans arranged any;
-  unmerged = λ any. next-unmerged dp k low region any nodes new ways marks arcs led_arcs nodes2 below distinct list tried spans arranged any;
-  arcs_lie = above-arcs dp k low region arcs nodes new ways marks arcs led_arcs nodes2 below distinct list tried spans arranged;
-  bare = λ any. next-bare dp k low region any nodes new ways marks arcs led_arcs nodes2 below distinct list tried spans arranged any;
-  same = above-length dp k low region arcs nodes new ways marks arcs led_arcs nodes2 below distinct list tried spans arranged;
-  few = (let size = next-length dp k low region arcs nodes new ways marks arcs led_arcs nodes2 below distinct list tried spans arranged in omega arith);
-  few_arcs = (let size = length-led dp k low region arcs nodes new ways marks arcs led_arcs nodes2 below distinct list tried spans arranged in omega arith);
+  rest = λ before. above-rest dp k low region before nodes new ways marks arcs routes nodes2 below distinct list tried spans arranged;
+  ranked = λ any. next-ranked dp k low region any nodes new ways marks arcs routes nodes2 below distinct list tried spans arranged any;
+  unmerged = λ any. next-unmerged dp k low region any nodes new ways marks arcs routes nodes2 below distinct list tried spans arranged any;
+  arcs_lie = above-arcs dp k low region (to_ways arcs) nodes new ways marks arcs routes nodes2 below distinct list tried spans arranged;
+  bare = λ any. next-bare dp k low region any nodes new ways marks arcs routes nodes2 below distinct list tried spans arranged any;
+  same = above-length dp k low region (to_ways arcs) nodes new ways marks arcs routes nodes2 below distinct list tried spans arranged;
+  few = (let size = next-length dp k low region (to_ways arcs) nodes new ways marks arcs routes nodes2 below distinct list tried spans arranged in omega arith);
+  few_arcs = (let size = length-led dp k low region (to_ways arcs) nodes new ways marks arcs routes nodes2 below distinct list tried spans arranged in omega arith);
 }
 
 -- the same by equal parts
-pub arranged-by : (held : ℕ → List ℤ) (ways ways2 : List Way) (marks marks2 : List Bool) (old old2 new : List DdArc) (nodes : List Node)
-    → AreArranged held ways marks old new nodes → ways ≡ ways2 → marks ≡ marks2 → old ≡ old2 → AreArranged held ways2 marks2 old2 new nodes
-arranged-by held ways ways2 marks marks2 old old2 new nodes h c d e =
-    subst (λ x. AreArranged held x marks2 old2 new nodes) c
-    (subst (λ x. AreArranged held ways x old2 new nodes) d
-    (subst (λ x. AreArranged held ways marks x new nodes) e h))
+pub arranged-by : (held : ℕ → List ℤ) (ways ways2 : List Way) (marks marks2 : List Bool) (routes : List Route) (nodes : List Node)
+    → AreArranged held ways marks routes nodes → ways ≡ ways2 → marks ≡ marks2 → AreArranged held ways2 marks2 routes nodes
+arranged-by held ways ways2 marks marks2 routes nodes h c d =
+    subst (λ x. AreArranged held x marks2 routes nodes) c (subst (λ x. AreArranged held ways x routes nodes) d h)
 
 -- whatever the rows are found by that the region has
 module _ (rule : List DdNode → TwoLayers) (dp : Dp) (k : ℕ) (region : RegionView) (old new : List Node) (arcs : List DdArc) (held : ℕ → List ℤ) (below : List Node) (h : IsExpanded rule dp k (held_row region) old new arcs held below)

@@ -1,5 +1,5 @@
 -- Layers whose rows stand in a region.
-use Rattle.std.proofs.Common.{◌≡◌, ℕ, zero, suc, ◌<◌, ℤ, List, [], ◌∷◌, length, map, take, slice_get, get_or, Option, option_map, Some, None, true, refl, sym, ◌∙◌, ap, ap₂, subst, arith}
+use Rattle.std.proofs.Common.{◌≡◌, ℕ, zero, suc, ◌<◌, ℤ, List, [], ◌∷◌, length, map, take, slice_get, get_or, option_map, Some, None, true, refl, sym, ◌∙◌, ap, ap₂, subst, arith}
 use Rattle.dp_model.specs.Lists.{Each}
 use Rattle.dp_model.proofs.Members.{Each-then}
 use Rattle.dp_laws.specs.declared.arc.DdArc.{DdArc}
@@ -8,6 +8,7 @@ use Rattle.layer_candidates.proofs.HeldRows.{held-is}
 use Rattle.row_region.specs.Region.{RegionView, IsRow, HasPut}
 use Rattle.row_region.proofs.Callers.{put_row}
 use Rattle.layer_nodes.specs.declared.node.Node.{Node}
+use Rattle.layer_nodes.specs.declared.routing.StoredArc.{StoredArc}
 use Rattle.layer_nodes.specs.Holding.{AreHeld, places_of, HaveRows}
 use Rattle.layer_nodes.specs.Nodes.{NodeView, LayerView, without_arcs}
 use Rattle.layer_nodes.specs.Steps.{AreAmong, KeepsNodes}
@@ -78,7 +79,7 @@ pub kept-places : (nodes : List Node) → rows_in (map bare_of nodes) ≡ rows_i
 kept-places [] = refl
 kept-places (node ∷ nodes) = ap (λ l. node.row ∷ l) (kept-places nodes)
 
-pub kept-arcs : (nodes : List Node) → Each (HasArcsIn []) (map bare_of nodes)
+pub kept-arcs : (nodes : List Node) → Each (HasArcsIn {X = StoredArc} []) (map bare_of nodes)
 kept-arcs [] = tt
 kept-arcs (node ∷ nodes) = (omega arith, kept-arcs nodes)
 

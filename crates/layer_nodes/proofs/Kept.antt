@@ -1,14 +1,14 @@
--- Arcs that lose their targets after a width.
+-- Routes that lose their targets after a width.
 use Rattle.std.proofs.Common.{◌≡◌, ℕ, zero, suc, ◌+◌, ◌-◌, ◌<◌, ◌≤◌, nat_lt, ℤ, pos, ◌+ℤ◌, true, false, cond, List, ◌++◌, length, replicate, slice_get, Option, Some, None, option_and_then, ◌⊎◌, inl, inr, refl, sym, ◌∙◌, ap, arith}
 use Rattle.std.proofs.lemmas.Int.{ints}
-use Rattle.dp_laws.specs.declared.arc.DdArc.{DdArc}
 use Rattle.dp_laws.specs.Diagrams.Nodes.{DdNode}
 use Rattle.dp_laws.proofs.Diagrams.Places.{slice_get-append}
 use Rattle.dp_laws.proofs.Rules.Merged.{following, length-staying, staying-at}
-use Rattle.dp_laws.specs.Rules.Redirects.{Redirect, redirected_by, redirected}
+use Rattle.dp_laws.specs.Rules.Redirects.{Redirect}
 use Rattle.dp_laws.specs.Rules.Reducing.{staying, keep_redirects}
-use Rattle.layer_nodes.specs.Keeping.{kept_target, kept_arc}
-use Rattle.layer_nodes.specs.Redirecting.{redirect_of}
+use Rattle.layer_nodes.specs.declared.routing.Route.{Route}
+use Rattle.layer_nodes.specs.Keeping.{kept_target, kept_route}
+use Rattle.layer_nodes.specs.Redirecting.{redirect_of, rerouted_by, rerouted}
 
 none-there : (m j : ℕ) → option_and_then (λ (l : Option Redirect). l) (slice_get (replicate m None) j) ≡ None
 none-there zero j = refl
@@ -34,13 +34,13 @@ kept-some width m i = go (let at : (i < width) ⊎ (width ≤ i) = grind arith i
         ∙ (ap (option_and_then (λ (l : Option Redirect). l)) (following (staying width) (replicate m None) width (i - width) (length-staying width))
         ∙ (none-there m (i - width) ∙ ap (λ b. cond b (Some (record { place = i; longer = pos 0 })) None) (sym test)))
 
-by-test : (arc : DdArc) (i : ℕ) → (b : _) → record arc { target = cond b (Some i) None } ≡ redirected_by arc (cond b (Some (record { place = i; longer = pos 0 })) None)
-by-test arc i true = ap (λ l. record arc { target = Some i; longer = l }) (sym (plus-none arc.longer))
-by-test arc i false = refl
+by-test : (route : Route) (i : ℕ) → (b : _) → record route { target = cond b (Some i) None } ≡ rerouted_by route (cond b (Some (record { place = i; longer = pos 0 })) None)
+by-test route i true = ap (λ l. record route { target = Some i; longer = l }) (sym (plus-none route.longer))
+by-test route i false = refl
 
-kept-target : (width m : ℕ) (arc : DdArc) (target : Option ℕ) → record arc { target = kept_target width target } ≡ redirected_by arc (redirect_of (staying width ++ replicate m None) target)
-kept-target width m arc None = refl
-kept-target width m arc (Some i) = by-test arc i (nat_lt i width) ∙ ap (redirected_by arc) (sym (kept-some width m i))
+kept-target : (width m : ℕ) (route : Route) (target : Option ℕ) → record route { target = kept_target width target } ≡ rerouted_by route (redirect_of (staying width ++ replicate m None) target)
+kept-target width m route None = refl
+kept-target width m route (Some i) = by-test route i (nat_lt i width) ∙ ap (rerouted_by route) (sym (kept-some width m i))
 
-pub kept-is : (width : ℕ) (layer : List DdNode) (arc : DdArc) → kept_arc width arc ≡ redirected (keep_redirects width layer) arc
-kept-is width layer arc = kept-target width (length layer - width) arc arc.target
+pub kept-is : (width : ℕ) (layer : List DdNode) (route : Route) → kept_route width route ≡ rerouted (keep_redirects width layer) route
+kept-is width layer route = kept-target width (length layer - width) route route.target

@@ -12,7 +12,7 @@ use Rattle.layer_candidates.proofs.HeldRows.{held-same, exchange-moved}
 use Rattle.layer_candidates.proofs.Sorted.{map-table, key-row}
 use Rattle.row_region.specs.Region.{RegionView, IsLive}
 use Rattle.layer_nodes.specs.declared.node.Node.{Node}
-use Rattle.dp_laws.specs.declared.arc.DdArc.{DdArc}
+use Rattle.layer_nodes.specs.declared.routing.Route.{Route}
 use Rattle.layer_nodes.specs.Expanding.{node_of, AreArranged}
 use Rattle.layer_nodes.specs.Stored.{rows_in}
 use Rattle.layer_nodes.proofs.Expanded.{IsFoundBy}
@@ -41,8 +41,8 @@ pub rows-of-keys : (ways : List Way) → key_rows (keys_of ways) ≡ rows_of way
 rows-of-keys ways = map-table (λ (key : Key). key.row) (key_at ways) (length ways) ∙ table-of (λ (w : Way). w.row) ways _
 
 -- the nodes of all ways have their rows
-pub arranged-exchanged : (old new : RegionView) (before : List ℕ) (ways : List Way) (marks : List Bool) (arcs led_arcs : List DdArc) (nodes : List Node) → AreArranged (held_row new) ways marks arcs led_arcs nodes
+pub arranged-exchanged : (old new : RegionView) (before : List ℕ) (ways : List Way) (marks : List Bool) (routes : List Route) (nodes : List Node) → AreArranged (held_row new) ways marks routes nodes
     → HasExchanged old before new (rows_of ways) → HasExchanged old before new (rows_in nodes)
-arranged-exchanged old new before ways marks arcs led_arcs nodes h exchanged =
+arranged-exchanged old new before ways marks routes nodes h exchanged =
     subst (HasExchanged old before new) (sym (ap rows_in h.nodes_are ∙ rows-of-nodes ways marks h.keys))
     (exchange-moved old new before (rows_of ways) (key_rows h.keys) (subst (λ l. IsPermutation l (key_rows h.keys)) (rows-of-keys ways) (IsPermutation-map (λ (key : Key). key.row) (keys_of ways) h.keys h.all)) exchanged)

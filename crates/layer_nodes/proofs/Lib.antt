@@ -4,6 +4,7 @@ pub mod Spans
 pub mod Expanded
 pub mod KeyRows
 pub mod Redirected
+pub mod Routed
 pub mod Stored
 pub mod Exchanges
 pub mod Given

@@ -81,8 +81,8 @@ module _ (dp : Dp) (k width : ℕ) (old : RegionView) (nodes : List Node) (regio
       (subst (Each (IsRanked dp k)) (take-map seen_by n nodes) (each-take (IsRanked dp k) n (map seen_by nodes) ranked))
       (record { state = subst (IsStateOf dp k) (sym new-row) h.state; rank = ap (dp.rank k) (sym new-row); hash = ap (dp.hash k) (sym new-row) }, tt))
 
-  pub merged-lie : Each (HasArcsIn arcs) nodes → Each (HasArcsIn arcs) nodes2
-  merged-lie lie = subst (Each (HasArcsIn arcs)) (sym h.list) (Each-append (HasArcsIn arcs) (take n nodes) (new ∷ []) (each-take (HasArcsIn arcs) n nodes lie) (omega arith, tt))
+  pub merged-lie : {X : Type 0} (stored : List X) → Each (HasArcsIn stored) nodes → Each (HasArcsIn stored) nodes2
+  merged-lie stored lie = subst (Each (HasArcsIn stored)) (sym h.list) (Each-append (HasArcsIn stored) (take n nodes) (new ∷ []) (each-take (HasArcsIn stored) n nodes lie) (omega arith, tt))
 
   pub merged-few : 1 ≤ width → width < length nodes → length nodes2 ≤ length nodes
   merged-few positive wide =

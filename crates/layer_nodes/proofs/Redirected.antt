@@ -1,14 +1,14 @@
--- Arcs that get new targets, one after another.
-use Rattle.std.proofs.Common.{◌≡◌, ℕ, zero, suc, ◌+◌, ◌%◌, ◌^◌, ◌<◌, ◌≤◌, ℤ, ◌+ℤ◌, List, [], ◌∷◌, ◌++◌, length, map, take, drop, set, get_or, slice_get, Option, Some, None, option_and_then, to_z, of_z, w64, refl, sym, ◌∙◌, ap, ap₂, subst, arith}
+-- Routes that get new targets, one after another.
+use Rattle.std.proofs.Common.{◌≡◌, ℕ, zero, suc, ◌+◌, ◌%◌, ◌^◌, ◌<◌, ◌≤◌, ℤ, ◌+ℤ◌, List, [], ◌∷◌, ◌++◌, length, take, drop, set, get_or, slice_get, Option, Some, None, option_and_then, to_z, of_z, w64, refl, sym, ◌∙◌, ap, subst, arith}
 use Rattle.std.proofs.lemmas.Int.{ints, wrapping_add_is, int_wrap_fits}
 use Rattle.std.proofs.lemmas.List.{take_more, take_more_set, drop-set-lt, length-set, take_all}
 use Rattle.dp_model.specs.Lists.{Each}
 use Rattle.dp_model.specs.Numbers.{IsSmall, IsFar}
-use Rattle.dp_laws.specs.declared.arc.DdArc.{DdArc}
-use Rattle.dp_laws.specs.Rules.Redirects.{Redirect, redirected_by, redirected}
-use Rattle.layer_nodes.specs.Redirecting.{redirect_of, IsShort, IsRedirected, AreRedirected}
+use Rattle.dp_laws.specs.Rules.Redirects.{Redirect}
+use Rattle.layer_nodes.specs.declared.routing.Route.{Route}
+use Rattle.layer_nodes.specs.Redirecting.{redirect_of, IsShort, rerouted_by, rerouted, IsRerouted, AreRerouted}
 
--- One arc.
+-- One route.
 
 short-at : (ls : List (Option Redirect)) (i : ℕ) (l : Redirect) → Each IsShort ls → option_and_then (λ o. o) (slice_get ls i) ≡ Some l → IsSmall l.longer
 short-at [] i l short h = absurd (cc)
@@ -22,52 +22,32 @@ short-redirect ls (Some i) l short h = short-at ls i l short h
 pub sum-is : (a b : ℤ) → IsFar a → IsSmall b → to_z w64 ((of_z w64 a + of_z w64 b) % 2 ^ 64) ≡ (a +ℤ b)
 sum-is a b far small = wrapping_add_is w64 a b (omega (arith, ints)) (omega (arith, ints)) ∙ int_wrap_fits w64 (a +ℤ b) (omega (arith, ints))
 
-abbrev arc_of : ℕ → Option ℕ → ℤ → ℤ → DdArc
-arc_of d t g l = record { decision = d; target = t; gain = g; longer = l }
+abbrev route_of : Option ℕ → ℤ → Route
+route_of target longer = record { target = target; longer = longer }
 
-pub redirected-some : (ls : List (Option Redirect)) (arc : DdArc) (l : Redirect) (place : ℕ) (gain longer : ℤ) → redirect_of ls arc.target ≡ Some l → place ≡ l.place → gain ≡ arc.gain → longer ≡ (arc.longer +ℤ l.longer)
-    → arc_of arc.decision (Some place) gain longer ≡ redirected ls arc
-redirected-some ls arc l place gain longer h a b c = rw a (rw b (rw c (sym (ap (redirected_by arc) h))))
+pub rerouted-some : (ls : List (Option Redirect)) (route : Route) (l : Redirect) (place : ℕ) (longer : ℤ) → redirect_of ls route.target ≡ Some l → place ≡ l.place → longer ≡ (route.longer +ℤ l.longer)
+    → route_of (Some place) longer ≡ rerouted ls route
+rerouted-some ls route l place longer h a b = rw a (rw b (sym (ap (rerouted_by route) h)))
 
--- Lists of arcs.
+-- Lists of routes.
 
 module _ (ls : List (Option Redirect)) where
-  push : (olds news : List DdArc) (old new : DdArc) → AreRedirected ls olds news → IsRedirected ls old new → AreRedirected ls (olds ++ old ∷ []) (news ++ new ∷ [])
+  push : (olds news : List Route) (old new : Route) → AreRerouted ls olds news → IsRerouted ls old new → AreRerouted ls (olds ++ old ∷ []) (news ++ new ∷ [])
   push [] [] old new all one = (one, tt)
   push [] (n ∷ news) old new all one = absurd all
   push (o ∷ olds) [] old new all one = absurd all
   push (o ∷ olds) (n ∷ news) old new all one = (all.0, push olds news old new all.1 one)
 
-  pub redirected-take : (n : ℕ) (olds news : List DdArc) → AreRedirected ls olds news → AreRedirected ls (take n olds) (take n news)
-  redirected-take zero olds news all = tt
-  redirected-take (suc n) [] [] all = tt
-  redirected-take (suc n) [] (x ∷ news) all = absurd all
-  redirected-take (suc n) (o ∷ olds) [] all = absurd all
-  redirected-take (suc n) (o ∷ olds) (x ∷ news) all = (all.0, redirected-take n olds news all.1)
-
-  pub redirected-drop : (n : ℕ) (olds news : List DdArc) → AreRedirected ls olds news → AreRedirected ls (drop n olds) (drop n news)
-  redirected-drop zero olds news all = all
-  redirected-drop (suc n) [] [] all = tt
-  redirected-drop (suc n) [] (x ∷ news) all = absurd all
-  redirected-drop (suc n) (o ∷ olds) [] all = absurd all
-  redirected-drop (suc n) (o ∷ olds) (x ∷ news) all = redirected-drop n olds news all.1
-
-  pub redirected-far : (olds news : List DdArc) → AreRedirected ls olds news → Each (λ arc. IsFar arc.longer) olds → news ≡ map (redirected ls) olds
-  redirected-far [] [] all far = refl
-  redirected-far [] (n ∷ news) all far = absurd all
-  redirected-far (o ∷ olds) [] all far = absurd all
-  redirected-far (o ∷ olds) (n ∷ news) all far = ap₂ (λ x xs. x ∷ xs) (all.0 far.0) (redirected-far olds news all.1 far.1)
-
-  pub redirected-length : (olds news : List DdArc) → AreRedirected ls olds news → length news ≡ length olds
-  redirected-length [] [] all = refl
-  redirected-length [] (n ∷ news) all = absurd all
-  redirected-length (o ∷ olds) [] all = absurd all
-  redirected-length (o ∷ olds) (n ∷ news) all = let rest = redirected-length olds news all.1 in omega arith
+  pub rerouted-length : (olds news : List Route) → AreRerouted ls olds news → length news ≡ length olds
+  rerouted-length [] [] all = refl
+  rerouted-length [] (n ∷ news) all = absurd all
+  rerouted-length (o ∷ olds) [] all = absurd all
+  rerouted-length (o ∷ olds) (n ∷ news) all = let rest = rerouted-length olds news all.1 in omega arith
 
 -- What was done and what is left.
 
-pub record IsChanged (ls : List (Option Redirect)) (old now : List DdArc) (i : ℕ) : Type 0 where
-  pub done : AreRedirected ls (take i old) (take i now)
+pub record IsChanged (ls : List (Option Redirect)) (old now : List Route) (i : ℕ) : Type 0 where
+  pub done : AreRerouted ls (take i old) (take i now)
   pub left : drop i now ≡ drop i old
   pub same : length now ≡ length old
 
@@ -89,22 +69,22 @@ left-after old now i left same = let one : i + 1 ≡ suc i = omega arith in ap (
     next (o ∷ old) (n ∷ now) zero left same = ap (drop 1) left
     next (o ∷ old) (n ∷ now) (suc i) left same = next old now i left (omega arith)
 
-pub changed-more : (ls : List (Option Redirect)) (old now : List DdArc) (i : ℕ) (arc d : DdArc) → IsChanged ls old now i → i < length old → IsRedirected ls (get_or now i d) arc → IsChanged ls old (set now i arc) (i + 1)
-changed-more ls old now i arc d h less one =
+pub changed-more : (ls : List (Option Redirect)) (old now : List Route) (i : ℕ) (route d : Route) → IsChanged ls old now i → i < length old → IsRerouted ls (get_or now i d) route → IsChanged ls old (set now i route) (i + 1)
+changed-more ls old now i route d h less one =
     let size = h.same in
     let at = left-at old now i d h.left h.same less in
     record {
-      done = subst (λ l. AreRedirected ls (take (i + 1) old) l) (sym (take_more_set now i arc (omega arith)))
-          (subst (λ l. AreRedirected ls l (take i now ++ arc ∷ [])) (sym (take_more old i d less))
-          (push ls (take i old) (take i now) (get_or old i d) arc h.done (subst (λ a. IsRedirected ls a arc) at one)));
-      left = drop-set-lt (i + 1) now i arc (omega arith) ∙ left-after old now i h.left h.same;
-      same = length-set now i arc ∙ h.same;
+      done = subst (λ l. AreRerouted ls (take (i + 1) old) l) (sym (take_more_set now i route (omega arith)))
+          (subst (λ l. AreRerouted ls l (take i now ++ route ∷ [])) (sym (take_more old i d less))
+          (push ls (take i old) (take i now) (get_or old i d) route h.done (subst (λ a. IsRerouted ls a route) at one)));
+      left = drop-set-lt (i + 1) now i route (omega arith) ∙ left-after old now i h.left h.same;
+      same = length-set now i route ∙ h.same;
     }
 
-pub changed-all : (ls : List (Option Redirect)) (old now : List DdArc) (i : ℕ) → IsChanged ls old now i → length old ≤ i → AreRedirected ls old now
+pub changed-all : (ls : List (Option Redirect)) (old now : List Route) (i : ℕ) → IsChanged ls old now i → length old ≤ i → AreRerouted ls old now
 changed-all ls old now i h end =
     let size = h.same in
-    subst (λ l. AreRedirected ls l now) (take_all i old (omega arith)) (subst (AreRedirected ls (take i old)) (take_all i now (omega arith)) h.done)
+    subst (λ l. AreRerouted ls l now) (take_all i old (omega arith)) (subst (AreRerouted ls (take i old)) (take_all i now (omega arith)) h.done)
 
-pub changed-none : (ls : List (Option Redirect)) (arcs : List DdArc) → IsChanged ls arcs arcs 0
-changed-none ls arcs = record { done = tt; left = refl; same = refl }
+pub changed-none : (ls : List (Option Redirect)) (routes : List Route) → IsChanged ls routes routes 0
+changed-none ls routes = record { done = tt; left = refl; same = refl }

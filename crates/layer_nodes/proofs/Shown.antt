@@ -1,5 +1,5 @@
 -- Layers with their paths, whose arcs get new targets.
-use Rattle.std.proofs.Common.{◌≡◌, ℕ, ◌+◌, ℤ, List, [], ◌∷◌, map, take, drop, Option, refl, ap, ap₂}
+use Rattle.std.proofs.Common.{◌≡◌, ℕ, ◌+◌, ℤ, List, [], ◌∷◌, map, Option, refl, ap, ap₂}
 use Rattle.dp_model.specs.Dp.{Dp}
 use Rattle.dp_model.specs.Lists.{Each}
 use Rattle.dp_laws.specs.declared.arc.DdArc.{DdArc}
@@ -7,28 +7,29 @@ use Rattle.dp_laws.specs.Diagrams.Nodes.{DdNode, path_below}
 use Rattle.dp_laws.specs.Rules.Redirects.{Redirect, redirected, with_redirected}
 use Rattle.row_region.specs.Region.{RegionView}
 use Rattle.layer_nodes.specs.declared.node.Node.{Node}
+use Rattle.layer_nodes.specs.declared.routing.Route.{Route}
+use Rattle.layer_nodes.specs.declared.routing.StoredArc.{StoredArc}
 use Rattle.layer_nodes.specs.Holding.{AreHeld, places_of}
 use Rattle.layer_nodes.specs.Leading.{IsNodeIn}
 use Rattle.layer_nodes.specs.Nodes.{NodeView, shown, shown_from, shown_below, without_arcs}
-use Rattle.layer_nodes.specs.Redirecting.{AreRedirected}
+use Rattle.layer_nodes.specs.Redirecting.{AreRerouted}
+use Rattle.layer_nodes.specs.Routing.{routed_arcs}
 use Rattle.layer_nodes.specs.Steps.{IsNodeOf, MayBeLengthened}
 use Rattle.layer_nodes.specs.Stored.{node_view_by, rows_in}
 use Rattle.layer_nodes.specs.Striking.{Shows}
 use Rattle.layer_nodes.proofs.Given.{in-by}
-use Rattle.layer_nodes.proofs.Redirected.{redirected-take, redirected-drop, redirected-far}
+use Rattle.layer_nodes.proofs.Routed.{arcs-rerouted}
 
 -- ---- the layer above
 
 abbrev pub with_targets : List (Option Redirect) → NodeView → NodeView
 with_targets ls node = record node { arcs = map (redirected ls) node.arcs }
 
-pub views-redirected : (ls : List (Option Redirect)) (row : ℕ → List ℤ) (old new : List DdArc) (nodes : List Node) → AreRedirected ls old new → Each MayBeLengthened (map (node_view_by row old) nodes)
-    → map (node_view_by row new) nodes ≡ map (with_targets ls) (map (node_view_by row old) nodes)
-views-redirected ls row old new [] h far = refl
-views-redirected ls row old new (node ∷ nodes) h far =
-    let arcs = redirected-far ls (take node.arcs (drop node.first_arc old)) (take node.arcs (drop node.first_arc new))
-    (redirected-take ls node.arcs (drop node.first_arc old) (drop node.first_arc new) (redirected-drop ls node.first_arc old new h)) far.0 in
-    ap₂ (λ a l. record (node_view_by row old node) { arcs = a } ∷ l) arcs (views-redirected ls row old new nodes h far.1)
+pub views-redirected : (ls : List (Option Redirect)) (row : ℕ → List ℤ) (olds news : List Route) (arcs : List StoredArc) (nodes : List Node) → AreRerouted ls olds news → Each MayBeLengthened (map (node_view_by row (routed_arcs olds arcs)) nodes)
+    → map (node_view_by row (routed_arcs news arcs)) nodes ≡ map (with_targets ls) (map (node_view_by row (routed_arcs olds arcs)) nodes)
+views-redirected ls row olds news arcs [] h far = refl
+views-redirected ls row olds news arcs (node ∷ nodes) h far =
+    ap₂ (λ a l. record (node_view_by row (routed_arcs olds arcs) node) { arcs = a } ∷ l) (arcs-rerouted ls olds news h node.first_arc node.arcs arcs far.0) (views-redirected ls row olds news arcs nodes h far.1)
 
 pub shown-redirected : (paths : ℕ → List ℕ) (i : ℕ) (ls : List (Option Redirect)) (nodes : List NodeView) → shown_from paths i (map (with_targets ls) nodes) ≡ with_redirected ls (shown_from paths i nodes)
 shown-redirected paths i ls [] = refl

@@ -33,13 +33,17 @@ use Rattle.layer_candidates.specs.Ways.{rows_of, way_row, reached_at, all_reache
 use Rattle.layer_candidates.proofs.Layered.{has-table}
 use Rattle.layer_candidates.proofs.Sorted.{unstruck-are, unstruck-in-order, unstruck-length}
 use Rattle.layer_nodes.specs.declared.node.Node.{Node}
+use Rattle.layer_nodes.specs.declared.routing.Route.{Route}
+use Rattle.layer_nodes.specs.declared.routing.StoredArc.{StoredArc}
 use Rattle.layer_nodes.specs.Nodes.{NodeView, shown_layer, shown_below, without_arcs}
 use Rattle.row_region.specs.Region.{RegionView, IsLive}
+use Rattle.layer_nodes.specs.Routing.{routed, routed_arcs, to_way, to_ways}
 use Rattle.layer_nodes.specs.Stored.{node_view_by, rows_in, HasArcsIn}
 use Rattle.layer_nodes.specs.Steps.{IsRanked}
-use Rattle.layer_nodes.specs.Expanding.{trial, trials_of, all_spanned, arc_to, LeadsToRow, AreTried, key_in, number_at, IsNumbered, led, node_of, members_from, IsExpanded}
+use Rattle.layer_nodes.specs.Expanding.{trial, trials_of, all_spanned, arc_to, LeadsToRow, AreTried, key_in, number_at, IsNumbered, node_of, members_from, IsExpanded}
 use Rattle.layer_nodes.specs.Sifting.{sifted_nodes, sift_redirects, expand_sifted, AreSifted}
 use Rattle.layer_nodes.proofs.KeyRows.{rows-of-nodes, found-by}
+use Rattle.layer_nodes.proofs.Routed.{led, routed-led}
 use Rattle.layer_nodes.proofs.Spans.{length-spanned}
 use Rattle.layer_nodes.proofs.Shown.{map-map}
 use Rattle.layer_nodes.proofs.Tried.{length-arcs}
@@ -114,12 +118,15 @@ two-changes dp k next redirects (node ∷ layer) =
 -- The whole.
 
 module _ (dp : Dp) (k : ℕ) (t : Option ℤ) (low : k < dp.vars) (region : RegionView) (old : List DdArc) (nodes : List Node) (mid : RegionView) (ways : List Way)
-    (marks : List Bool) (arcs led_arcs : List DdArc) (nodes2 below : List Node)
+    (marks : List Bool) (arcs : List StoredArc) (routes : List Route) (nodes2 below : List Node)
     (distinct : AreDistinct dp (k + 1) (way_row mid ways) ways)
     (list : (paths : ℕ → List ℕ) → all_reached paths (way_row mid ways) ways ≡ all_joined [] (candidates dp k (members_as paths region (members_from 0 nodes))))
-    (tried : AreTried dp k (way_row mid ways) (length ways) (trials_of dp k (held_row region) nodes) marks arcs)
+    (tried : AreTried dp k (way_row mid ways) (length ways) (trials_of dp k (held_row region) nodes) marks (to_ways arcs))
     (spans : nodes2 ≡ all_spanned dp k (held_row region) 0 nodes)
-    (arranged : AreSifted dp (k + 1) t mid ways marks arcs led_arcs below) (held : ℕ → List ℤ) (found : Each (IsFoundBy held (way_row mid ways)) arranged.keys) where
+    (arranged : AreSifted dp (k + 1) t mid ways marks routes below) (held : ℕ → List ℤ) (found : Each (IsFoundBy held (way_row mid ways)) arranged.keys) where
+  abbrev led_arcs : List DdArc
+  led_arcs = routed_arcs routes arcs
+
   abbrev keys : List Key
   keys = arranged.keys
 
@@ -147,7 +154,7 @@ module _ (dp : Dp) (k : ℕ) (t : Option ℤ) (low : k < dp.vars) (region : Regi
   pub next-shown : (paths : ℕ → List ℕ) (any : List DdArc) → shown_below paths (map (node_view_by held any) below) ≡ sifted_nodes dp (k + 1) t (next_of paths)
   next-shown paths any =
       ap (λ l. shown_below paths (map (node_view_by held any) l)) arranged.nodes_are
-      ∙ (keys-shown dp k low region old nodes row ways marks arcs tried held paths any keys layer-keys found ∙ kept-is paths)
+      ∙ (keys-shown dp k low region old nodes row ways marks (to_ways arcs) tried held paths any keys layer-keys found ∙ kept-is paths)
 
   module _ (paths : ℕ → List ℕ) (p : ℕ) (less : p < length ways) where
     abbrev node : DdNode
@@ -172,17 +179,17 @@ module _ (dp : Dp) (k : ℕ) (t : Option ℤ) (low : k < dp.vars) (region : Regi
         cc)))
 
     -- another one has
-    number-of : is_struck dp (k + 1) t node ≡ false → IsNumbered (length keys) keys arranged.places p
+    number-of : is_struck dp (k + 1) t node ≡ false → IsNumbered (length keys) keys routes p
     number-of e =
         let key = key_at ways p in
         let free : not (struck dp (k + 1) t mid key) ≡ true = ap not e in
-        each-has (λ (x : Key). IsNumbered (length keys) keys arranged.places x.place) keys key
-        (each-at (λ (x : Key). IsNumbered (length keys) keys arranged.places x.place) keys
-        (λ j d in_keys. subst (λ (x : Key). IsNumbered (length keys) keys arranged.places x.place) (get_or-any keys j _ d in_keys) (arranged.numbered j in_keys)))
+        each-has (λ (x : Key). IsNumbered (length keys) keys routes x.place) keys key
+        (each-at (λ (x : Key). IsNumbered (length keys) keys routes x.place) keys
+        (λ j d in_keys. subst (λ (x : Key). IsNumbered (length keys) keys routes x.place) (get_or-any keys j _ d in_keys) (arranged.numbered j in_keys)))
         (Has-permutation (unstruck_keys dp (k + 1) t mid ways) keys arranged.all key
         (Has-filter (λ (x : Key). not (struck dp (k + 1) t mid x)) (keys_of ways) key (has-table (key_at ways) (length ways) p less) free))
 
-    place-at : (kept : List DdNode) → kept ≡ map (node_for dp k (layer_of paths)) (all_of paths row ways keys) → (h : IsNumbered (length keys) keys arranged.places p)
+    place-at : (kept : List DdNode) → kept ≡ map (node_for dp k (layer_of paths)) (all_of paths row ways keys) → (h : IsNumbered (length keys) keys routes p)
         → slice_get (map (λ (n : DdNode). n.row) kept) h.number ≡ Some (row p)
     place-at kept is h =
         ap (λ l. slice_get (map (λ (n : DdNode). n.row) l) h.number) is ∙ (ap (λ l. slice_get l h.number) (rows-of dp k row ways (layer_of paths) paths keys)
@@ -197,10 +204,10 @@ module _ (dp : Dp) (k : ℕ) (t : Option ℤ) (low : k < dp.vars) (region : Regi
     goes_at arc j = redirected_by (arc_with arc (Some j)) (option_and_then (λ l. l) (slice_get redirects j))
 
     target-goes : (arc : DdArc) (j : ℕ) → arc.longer ≡ pos 0 → slice_get (next_of paths) j ≡ Some node → (b : Bool) → is_struck dp (k + 1) t node ≡ b
-        → arc_with arc (number_at arranged.places p) ≡ goes_at arc j
+        → arc_with arc (number_at routes p) ≡ goes_at arc j
     target-goes arc j short at true e =
         let gone = struck-at dp (k + 1) t 0 (next_of paths) j node at e in
-        ap (arc_with arc) (arranged.unnumbered p less (none-struck e))
+        ap (arc_with arc) (arranged.unnumbered p (none-struck e))
         ∙ ap (λ o. redirected_by (arc_with arc (Some j)) (option_and_then (λ l. l) o)) (sym gone)
     target-goes arc j short at false e =
         let s = stays-at dp (k + 1) t 0 (next_of paths) j node at e in
@@ -217,7 +224,7 @@ module _ (dp : Dp) (k : ℕ) (t : Option ℤ) (low : k < dp.vars) (region : Regi
         ∙ ap (λ o. redirected_by (arc_with arc (Some j)) (option_and_then (λ l. l) o)) (sym s.goes)))
 
   arc-goes : (paths : ℕ → List ℕ) (s : List ℤ) (exact : Bool) (d : ℕ) (arc : DdArc) → LeadsToRow dp k row (length ways) (trial s exact d) arc
-      → led arranged.places arc ≡ redirected (sift_redirects dp (k + 1) t 0 (next_of paths)) (arc_of dp k (next_of paths) s d)
+      → led routes arc ≡ redirected (sift_redirects dp (k + 1) t 0 (next_of paths)) (arc_of dp k (next_of paths) s d)
   arc-goes paths s exact d arc h =
       let to = arc_to dp k (trial s exact d) h.place in
       let y = node_for dp k (layer_of paths) (reached_at paths row ways h.place) in
@@ -225,7 +232,7 @@ module _ (dp : Dp) (k : ℕ) (t : Option ℤ) (low : k < dp.vars) (region : Regi
       let there : slice_get (map (λ (n : DdNode). n.row) (next_of paths)) j.0 ≡ Some (dp.step k s d) =
       slice_get-map (λ (n : DdNode). n.row) (next_of paths) j.0 ∙ (ap (λ o. option_and_then (λ (n : DdNode). Some n.row) o) j.1 ∙ ap Some h.made) in
       let found = place-of (next_of paths) j.0 (dp.step k s d) (new-apart dp k (layer_of paths)) there in
-      ap (led arranged.places) h.is
+      ap (led routes) h.is
       ∙ (target-goes paths h.place h.within to j.0 refl j.1 (is_struck dp (k + 1) t y) refl
       ∙ ap (λ o. redirected (sift_redirects dp (k + 1) t 0 (next_of paths)) (arc_with to o)) (sym found))
 
@@ -233,16 +240,17 @@ module _ (dp : Dp) (k : ℕ) (t : Option ℤ) (low : k < dp.vars) (region : Regi
       ≡ with_redirected (sift_redirects dp (k + 1) t 0 (next_of paths)) (with_arcs dp k (next_of paths) (layer_of paths))
   above-shown paths =
       let redirects = sift_redirects dp (k + 1) t 0 (next_of paths) in
-      ap₂ (λ l m. shown_layer paths (map (node_view_by (held_row region) l) m)) arranged.arcs_are spans
-      ∙ (above-from dp k row (length ways) (led arranged.places) (λ s d. redirected redirects (arc_of dp k (next_of paths) s d)) (arc-goes paths) (held_row region) old low paths 0 nodes 0 [] arcs refl tried.arcs_are
+      ap₂ (λ l m. shown_layer paths (map (node_view_by (held_row region) l) m)) (routed-led routes arcs arranged.plain) spans
+      ∙ (above-from dp k row (length ways) (led routes) (λ s d. redirected redirects (arc_of dp k (next_of paths) s d)) (arc-goes paths) (held_row region) old low paths 0 nodes 0 [] (to_ways arcs) refl tried.arcs_are
       ∙ two-changes dp k (next_of paths) redirects (layer_of paths))
 
   pub length-led : length led_arcs ≡ length arcs
-  length-led = ap length arranged.arcs_are ∙ length-map arcs (led arranged.places)
+  length-led = length-map arcs (routed routes)
 
   pub above-arcs : Each (HasArcsIn led_arcs) nodes2
   above-arcs =
-      let size = length-arcs dp k row (length ways) (trials_of dp k (held_row region) nodes) arcs tried.arcs_are in
+      let size = length-arcs dp k row (length ways) (trials_of dp k (held_row region) nodes) (to_ways arcs) tried.arcs_are in
+      let long = length-map arcs to_way in
       let same = length-led in
       subst (Each (HasArcsIn led_arcs)) (sym spans) (arcs-within dp k (held_row region) 0 led_arcs nodes (omega arith))
 
@@ -260,34 +268,32 @@ module _ (dp : Dp) (k : ℕ) (t : Option ℤ) (low : k < dp.vars) (region : Regi
 
 -- the extended layer is put in order without what is struck, whose rows are given back
 pub whole-sifted : (dp : Dp) (k : ℕ) (t : Option ℤ) → k < dp.vars → (region : RegionView) (nodes : List Node) (mid new : RegionView) (ways : List Way)
-    (marks : List Bool) (arcs led_arcs : List DdArc) (nodes2 below : List Node) → AreDistinct dp (k + 1) (way_row mid ways) ways
+    (marks : List Bool) (arcs : List StoredArc) (routes : List Route) (nodes2 below : List Node) → AreDistinct dp (k + 1) (way_row mid ways) ways
     → ((paths : ℕ → List ℕ) → all_reached paths (way_row mid ways) ways ≡ all_joined [] (candidates dp k (members_as paths region (members_from 0 nodes))))
-    → AreTried dp k (way_row mid ways) (length ways) (trials_of dp k (held_row region) nodes) marks arcs → nodes2 ≡ all_spanned dp k (held_row region) 0 nodes → length ways ≤ length nodes * dp.choices k
-    → length arcs ≤ length nodes * dp.choices k → AreSifted dp (k + 1) t mid ways marks arcs led_arcs below → HasLeft mid (rows_of ways) new (rows_in below)
-    → IsExpanded (expand_sifted dp k t) dp k (held_row region) nodes nodes2 led_arcs (held_row new) below
-whole-sifted dp k t low region nodes mid new ways marks arcs led_arcs nodes2 below distinct list tried spans few few_arcs arranged left =
+    → AreTried dp k (way_row mid ways) (length ways) (trials_of dp k (held_row region) nodes) marks (to_ways arcs) → nodes2 ≡ all_spanned dp k (held_row region) 0 nodes → length ways ≤ length nodes * dp.choices k
+    → length arcs ≤ length nodes * dp.choices k → AreSifted dp (k + 1) t mid ways marks routes below → HasLeft mid (rows_of ways) new (rows_in below)
+    → IsExpanded (expand_sifted dp k t) dp k (held_row region) nodes nodes2 (routed_arcs routes arcs) (held_row new) below
+whole-sifted dp k t low region nodes mid new ways marks arcs routes nodes2 below distinct list tried spans few few_arcs arranged left =
     let held = held_row new in
     let same = subst (AreSame mid new) (ap rows_in arranged.nodes_are ∙ rows-of-nodes ways marks arranged.keys) left.same in
     let live = subst (Each (IsLive new)) (ap rows_in arranged.nodes_are ∙ rows-of-nodes ways marks arranged.keys) left.exchanged.live.live in
     let found = found-by mid new ways arranged.keys (unstruck-are dp (k + 1) t mid ways arranged.keys arranged.all) same live in
     record {
-      above_is = λ before paths. above-shown dp k t low region before nodes mid ways marks arcs led_arcs nodes2 below distinct list tried spans arranged held found paths;
-      next_is = λ before any paths. next-shown dp k t low region before nodes mid ways marks arcs led_arcs nodes2 below distinct list tried spans arranged held found paths any;
+      above_is = λ before paths. above-shown dp k t low region before nodes mid ways marks arcs routes nodes2 below distinct list tried spans arranged held found paths;
+      next_is = λ before any paths. next-shown dp k t low region before nodes mid ways marks arcs routes nodes2 below distinct list tried spans arranged held found paths any;
       places = ap rows_in spans ∙ places-stay dp k (held_row region) 0 nodes;
-      rest = λ before. ap (λ m. map without_arcs (map (node_view_by (held_row region) led_arcs) m)) spans ∙ rest-stays dp k (held_row region) before led_arcs 0 nodes;
-      ranked = λ any. next-ranked dp k t low region any nodes mid ways marks arcs led_arcs nodes2 below distinct list tried spans arranged held found any;
-      unmerged = λ any. next-unmerged dp k t low region any nodes mid ways marks arcs led_arcs nodes2 below distinct list tried spans arranged held found any;
-      arcs_lie = above-arcs dp k t low region arcs nodes mid ways marks arcs led_arcs nodes2 below distinct list tried spans arranged held found;
-      bare = λ any. next-bare dp k t low region any nodes mid ways marks arcs led_arcs nodes2 below distinct list tried spans arranged held found any;
+      rest = λ before. ap (λ m. map without_arcs (map (node_view_by (held_row region) (routed_arcs routes arcs)) m)) spans ∙ rest-stays dp k (held_row region) before (routed_arcs routes arcs) 0 nodes;
+      ranked = λ any. next-ranked dp k t low region any nodes mid ways marks arcs routes nodes2 below distinct list tried spans arranged held found any;
+      unmerged = λ any. next-unmerged dp k t low region any nodes mid ways marks arcs routes nodes2 below distinct list tried spans arranged held found any;
+      arcs_lie = above-arcs dp k t low region (to_ways arcs) nodes mid ways marks arcs routes nodes2 below distinct list tried spans arranged held found;
+      bare = λ any. next-bare dp k t low region any nodes mid ways marks arcs routes nodes2 below distinct list tried spans arranged held found any;
       same = ap length spans ∙ length-spanned dp k (held_row region) 0 nodes;
-      few = (let size = next-few dp k t low region arcs nodes mid ways marks arcs led_arcs nodes2 below distinct list tried spans arranged held found in omega arith);
-      few_arcs = (let size = length-led dp k t low region arcs nodes mid ways marks arcs led_arcs nodes2 below distinct list tried spans arranged held found in omega arith);
+      few = (let size = next-few dp k t low region (to_ways arcs) nodes mid ways marks arcs routes nodes2 below distinct list tried spans arranged held found in omega arith);
+      few_arcs = (let size = length-led dp k t low region (to_ways arcs) nodes mid ways marks arcs routes nodes2 below distinct list tried spans arranged held found in omega arith);
     }
 
 -- the same by equal parts
-pub sifted-by : (dp : Dp) (k : ℕ) (t : Option ℤ) (region : RegionView) (ways ways2 : List Way) (marks marks2 : List Bool) (old old2 new : List DdArc) (nodes : List Node)
-    → AreSifted dp k t region ways marks old new nodes → ways ≡ ways2 → marks ≡ marks2 → old ≡ old2 → AreSifted dp k t region ways2 marks2 old2 new nodes
-sifted-by dp k t region ways ways2 marks marks2 old old2 new nodes h c d e =
-    subst (λ x. AreSifted dp k t region x marks2 old2 new nodes) c
-    (subst (λ x. AreSifted dp k t region ways x old2 new nodes) d
-    (subst (λ x. AreSifted dp k t region ways marks x new nodes) e h))
+pub sifted-by : (dp : Dp) (k : ℕ) (t : Option ℤ) (region : RegionView) (ways ways2 : List Way) (marks marks2 : List Bool) (routes : List Route) (nodes : List Node)
+    → AreSifted dp k t region ways marks routes nodes → ways ≡ ways2 → marks ≡ marks2 → AreSifted dp k t region ways2 marks2 routes nodes
+sifted-by dp k t region ways ways2 marks marks2 routes nodes h c d =
+    subst (λ x. AreSifted dp k t region x marks2 routes nodes) c (subst (λ x. AreSifted dp k t region ways x routes nodes) d h)

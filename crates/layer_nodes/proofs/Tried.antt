@@ -5,7 +5,6 @@ use Rattle.std.proofs.lemmas.List.{append-nil, map-append, get_or-set_same, get_
 use Rattle.std.proofs.lemmas.List.Elements.{filter-append}
 use Rattle.dp_model.specs.Decisions.{below}
 use Rattle.dp_model.specs.Dp.{Dp}
-use Rattle.dp_model.specs.Lists.{Each}
 use Rattle.dp_model.specs.Rows.{row_same}
 use Rattle.dp_laws.specs.declared.arc.DdArc.{DdArc}
 use Rattle.dp_laws.specs.Restricted.Extensions.{extended, all_joined}
@@ -15,7 +14,7 @@ use Rattle.layer_candidates.specs.Table.{IsPlaced}
 use Rattle.layer_candidates.specs.Ways.{reached_at, all_reached, AreDistinctRows}
 use Rattle.layer_candidates.proofs.Joined.{same_rows, other_rows}
 use Rattle.row_region.proofs.Rows.{length-table}
-use Rattle.layer_nodes.specs.Expanding.{Trial, trial, made_by, trials_by, arc_to, AreArcsOf, all_exact, mark_at, marked, AreTried, LeadsWithin}
+use Rattle.layer_nodes.specs.Expanding.{Trial, trial, made_by, trials_by, arc_to, AreArcsOf, all_exact, mark_at, marked, AreTried}
 
 -- Arcs.
 
@@ -31,13 +30,6 @@ module _ (dp : Dp) (k : ℕ) (row : ℕ → List ℤ) (count : ℕ) where
   length-arcs [] (a ∷ arcs) h = absurd h
   length-arcs (t ∷ ts) [] h = absurd h
   length-arcs (t ∷ ts) (a ∷ arcs) h = (let rest = length-arcs ts arcs h.1 in omega arith)
-
-  -- each leads to one of this many places
-  pub arcs-lead : (ts : List Trial) (arcs : List DdArc) → AreArcsOf dp k row count ts arcs → Each (LeadsWithin count) arcs
-  arcs-lead [] [] h = tt
-  arcs-lead [] (a ∷ arcs) h = absurd h
-  arcs-lead (t ∷ ts) [] h = absurd h
-  arcs-lead (t ∷ ts) (a ∷ arcs) h = (subst (LeadsWithin count) (sym h.0.is) h.0.within, arcs-lead ts arcs h.1)
 
   -- a row that none of them makes is exact
   pub exact-none : (ts : List Trial) (arcs : List DdArc) (new : List ℤ) → AreArcsOf dp k row count ts arcs → ((p : ℕ) → p < count → row p ≢ new) → all_exact dp k ts new ≡ true

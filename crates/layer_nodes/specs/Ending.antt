@@ -57,7 +57,7 @@ abbrev pub suffixes_in : List Node → List (Option ℤ)
 suffixes_in nodes = map (λ (node : Node). node.suffix) nodes
 
 -- the arcs of a node
-abbrev pub arcs_in : List DdArc → Node → List DdArc
+abbrev pub arcs_in : {X : Type 0} → List X → Node → List X
 arcs_in arcs node = take node.arcs (drop node.first_arc arcs)
 
 -- its arcs are some of the layer's, and with the suffixes of their targets they may be added up

@@ -1,5 +1,5 @@
 -- A layer is expanded: what its nodes are tried by, and what comes of it.
-use Rattle.std.specs.Prelude.{◌≡◌, ℕ, zero, suc, ◌+◌, ◌*◌, ◌<◌, ◌≤◌, nat_eq, ℤ, pos, Bool, true, false, not, ◌&&◌, ◌||◌, List, [], ◌∷◌, ◌++◌, length, map, set, slice_index_or, Option, Some, None, option_and_then, IsSome, IsSomeAnd, IsPermutation, IsSortedBy}
+use Rattle.std.specs.Prelude.{◌≡◌, ℕ, ◌+◌, ◌*◌, ◌<◌, ◌≤◌, nat_eq, ℤ, pos, Bool, true, false, not, ◌&&◌, ◌||◌, List, [], ◌∷◌, ◌++◌, length, map, set, slice_index_or, Option, Some, None, IsSome, IsPermutation, IsSortedBy}
 use Rattle.dp_model.specs.Decisions.{below}
 use Rattle.dp_model.specs.Dp.{Dp}
 use Rattle.dp_model.specs.Lists.{Each}
@@ -14,7 +14,9 @@ use Rattle.layer_candidates.specs.Extending.{all_allowed}
 use Rattle.layer_candidates.specs.KeyOrder.{keys_of, goes_before}
 use Rattle.layer_candidates.specs.Ways.{way_at}
 use Rattle.layer_nodes.specs.declared.node.Node.{Node}
+use Rattle.layer_nodes.specs.declared.routing.Route.{Route}
 use Rattle.layer_nodes.specs.Nodes.{NodeView, shown_layer, shown_below, without_arcs}
+use Rattle.layer_nodes.specs.Routing.{route_at, IsPlain}
 use Rattle.layer_nodes.specs.Steps.{IsRanked}
 use Rattle.layer_nodes.specs.Stored.{node_view_by, rows_in, HasArcsIn}
 
@@ -109,29 +111,16 @@ pub record AreTried (dp : Dp) (k : ℕ) (row : ℕ → List ℤ) (count : ℕ) (
 abbrev pub key_in : List Key → ℕ → Key
 key_in keys i = slice_index_or keys i (record { value = pos 0; rank = pos 0; place = 0; row = 0 })
 
--- the number that is kept as one more, or none
-abbrev pub one_less : ℕ → Option ℕ
-one_less zero = None
-one_less (suc n) = Some n
-
--- the number of the way at the place p, or none; zero stands where there is none
-abbrev pub number_at : List ℕ → ℕ → Option ℕ
-number_at places p = one_less (slice_index_or places p 0)
+-- the number of the way at the place p, or none
+abbrev pub number_at : List Route → ℕ → Option ℕ
+number_at routes p = (route_at routes p).target
 
 -- the way at the place p has a number, which is the place of its key among the first n
-pub record IsNumbered (n : ℕ) (keys : List Key) (places : List ℕ) (p : ℕ) : Type 0 where
+pub record IsNumbered (n : ℕ) (keys : List Key) (routes : List Route) (p : ℕ) : Type 0 where
   pub number : ℕ
-  pub is : number_at places p ≡ Some number
+  pub is : number_at routes p ≡ Some number
   pub within : number < n
   pub same : (key_in keys number).place ≡ p
-
--- the arc has a target, which is one of the first n places
-abbrev pub LeadsWithin : ℕ → DdArc → Type 0
-LeadsWithin n arc = IsSomeAnd arc.target (λ t. t < n)
-
--- the arc with the number of its target
-abbrev pub led : List ℕ → DdArc → DdArc
-led places arc = record arc { target = option_and_then (number_at places) arc.target }
 
 -- the node of a key's way, with its mark
 abbrev pub node_of : List Way → List Bool → Key → Node
@@ -148,14 +137,13 @@ node_of ways marks key = record {
   exact = mark_at marks key.place;
 }
 
--- the ways in the reduction order became the nodes, and the arcs lead to their places; places have these rows
-pub record AreArranged (held : ℕ → List ℤ) (ways : List Way) (marks : List Bool) (old new : List DdArc) (nodes : List Node) : Type 0 where
+-- the ways in the reduction order became the nodes, and their routes lead to the places of these; places have these rows
+pub record AreArranged (held : ℕ → List ℤ) (ways : List Way) (marks : List Bool) (routes : List Route) (nodes : List Node) : Type 0 where
   pub keys : List Key
-  pub places : List ℕ
   pub all : IsPermutation (keys_of ways) keys
   pub sorted : IsSortedBy (goes_before held) keys
-  pub numbered : (j : ℕ) → j < length keys → IsNumbered (length keys) keys places (key_in keys j).place
-  pub arcs_are : new ≡ map (led places) old
+  pub numbered : (j : ℕ) → j < length keys → IsNumbered (length keys) keys routes (key_in keys j).place
+  pub plain : Each IsPlain routes
   pub nodes_are : nodes ≡ map (node_of ways marks) keys
 
 -- the nodes of the layer at depth k are extended by the rule, and those below are the next layer, whatever the paths are, and

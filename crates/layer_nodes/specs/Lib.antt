@@ -1,4 +1,5 @@
 pub mod Nodes
+pub mod Routing
 pub mod Stored
 pub mod Steps
 pub mod Expanding

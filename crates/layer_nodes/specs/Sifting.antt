@@ -2,7 +2,6 @@
 use Rattle.std.specs.Prelude.{◌≡◌, ◌≢◌, ℕ, ◌+◌, ◌<◌, ℤ, pos, Bool, not, cond, List, [], ◌∷◌, length, map, filter, Option, Some, None, IsPermutation, IsSortedBy}
 use Rattle.dp_model.specs.Dp.{Dp}
 use Rattle.dp_model.specs.Lists.{Each}
-use Rattle.dp_laws.specs.declared.arc.DdArc.{DdArc}
 use Rattle.dp_laws.specs.Diagrams.Nodes.{DdNode}
 use Rattle.dp_laws.specs.Rules.Compiling.{TwoLayers, expand}
 use Rattle.dp_laws.specs.Rules.Pruning.{is_struck}
@@ -16,7 +15,9 @@ use Rattle.row_region.specs.Region.{RegionView}
 use Rattle.layer_nodes.specs.declared.node.Node.{Node}
 use Rattle.layer_nodes.specs.declared.striking.Strikes.{Strikes}
 use Rattle.layer_nodes.specs.declared.striking.Strikes.TheVariants.{AtMost, Nothing}
-use Rattle.layer_nodes.specs.Expanding.{key_in, number_at, node_of, IsNumbered, led}
+use Rattle.layer_nodes.specs.declared.routing.Route.{Route}
+use Rattle.layer_nodes.specs.Expanding.{key_in, number_at, node_of, IsNumbered}
+use Rattle.layer_nodes.specs.Routing.{IsPlain}
 
 -- the nodes of the layer at depth k that are not struck
 abbrev pub sifted_nodes : Dp → ℕ → Option ℤ → List DdNode → List DdNode
@@ -43,14 +44,13 @@ abbrev pub expanded_by : Strikes → Dp → ℕ → List DdNode → TwoLayers
 expanded_by (AtMost t) dp k = expand_sifted dp k t
 expanded_by Nothing dp k = expand dp k
 
--- the ways of the layer at depth k that are not struck became the nodes, in the reduction order, and the arcs lead to their
--- places; the region has the rows of all ways
-pub record AreSifted (dp : Dp) (k : ℕ) (t : Option ℤ) (region : RegionView) (ways : List Way) (marks : List Bool) (old new : List DdArc) (nodes : List Node) : Type 0 where
+-- the ways of the layer at depth k that are not struck became the nodes, in the reduction order, and their routes lead to the
+-- places of these; the region has the rows of all ways
+pub record AreSifted (dp : Dp) (k : ℕ) (t : Option ℤ) (region : RegionView) (ways : List Way) (marks : List Bool) (routes : List Route) (nodes : List Node) : Type 0 where
   pub keys : List Key
-  pub places : List ℕ
   pub all : IsPermutation (unstruck_keys dp k t region ways) keys
   pub sorted : IsSortedBy (goes_before (held_row region)) keys
-  pub numbered : (j : ℕ) → j < length keys → IsNumbered (length keys) keys places (key_in keys j).place
-  pub unnumbered : (p : ℕ) → p < length ways → Each (λ (key : Key). key.place ≢ p) keys → number_at places p ≡ None
-  pub arcs_are : new ≡ map (led places) old
+  pub numbered : (j : ℕ) → j < length keys → IsNumbered (length keys) keys routes (key_in keys j).place
+  pub unnumbered : (p : ℕ) → Each (λ (key : Key). key.place ≢ p) keys → number_at routes p ≡ None
+  pub plain : Each IsPlain routes
   pub nodes_are : nodes ≡ map (node_of ways marks) keys

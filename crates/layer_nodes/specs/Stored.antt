@@ -5,6 +5,7 @@ use Rattle.dp_laws.specs.declared.arc.DdArc.{DdArc}
 use Rattle.layer_candidates.specs.declared.table.WayTable.{WayTable}
 use Rattle.layer_candidates.specs.WayTables.{HasTableRoom}
 use Rattle.layer_nodes.specs.declared.node.Node.{Node}
+use Rattle.layer_nodes.specs.declared.routing.StoredArc.{StoredArc}
 use Rattle.layer_nodes.specs.Nodes.{NodeView}
 
 -- a node in memory, whose arcs lie in those of the layer, with the row that is found at its place
@@ -31,15 +32,16 @@ abbrev pub bare_of : Node → Node
 bare_of node = record node { first_arc = 0; arcs = 0 }
 
 -- the arcs of the node are some of the layer's
-abbrev pub HasArcsIn : List DdArc → Node → Type 0
+abbrev pub HasArcsIn : {X : Type 0} → List X → Node → Type 0
 HasArcsIn arcs node = node.first_arc + node.arcs ≤ length arcs
 
--- there is room for this many nodes, and the arcs of each are some of the layer's
-pub record HasLayer (room : ℕ) (nodes : List Node) (nodes_room : ℕ) (arcs : List DdArc) : Type 0 where
+-- there is room for this many nodes and for a route for each arc, and the arcs of each node are some of the layer's
+pub record HasLayer (room : ℕ) (nodes : List Node) (nodes_room : ℕ) (arcs : List StoredArc) (arcs_room routes_room : ℕ) : Type 0 where
   pub small : room + 1 < 2 ^ 32
   pub fits : length nodes ≤ room
   pub nodes_hold : room ≤ nodes_room
   pub few_arcs : length arcs < 2 ^ 32
+  pub routes_hold : arcs_room ≤ routes_room
   pub arcs_lie : Each (HasArcsIn arcs) nodes
 
 -- there is room for this many nodes or candidates at most, and for a row of this many cells
@@ -48,8 +50,7 @@ pub record Room : Type 0 where
   pub words : ℕ
 
 -- there is memory for this many candidates
-pub record HasExpansion (room : ℕ) (table : WayTable) (keys exact places : ℕ) : Type 0 where
+pub record HasExpansion (room : ℕ) (table : WayTable) (keys exact : ℕ) : Type 0 where
   pub table_room : HasTableRoom room table
   pub keys_hold : room ≤ keys
   pub exact_hold : room ≤ exact
-  pub places_hold : room ≤ places

@@ -4,10 +4,12 @@ ghost use Rattle.std.specs.Prelude.{◌≡◌, ◌+◌, ◌≤◌, ◌+ℤ◌, p
 ghost use Rattle.dp_model.specs.Lists.{Each};
 ghost use Rattle.dp_model.specs.Numbers.{add_some, greatest};
 ghost use Rattle.layer_nodes.specs.Ending.{suffix_of, lengths, MayAdd, MayFollow, MayLead, MayEnd, ended_layer, ended_last, suffixes_in, arcs_in, ended_in, at_end_in};
+ghost use Rattle.layer_nodes.specs.Routing.{routed_arcs};
 
 use crate::layer::Layer;
 use crate::merging::greater;
 use crate::node::Node;
+use crate::routing::{Route, StoredArc, routed};
 use dp_laws::DdArc;
 
 /// The length of an arc with what follows it.
@@ -30,22 +32,22 @@ fn suffix_of(nodes: &[Node], target: Option<u32>) -> Option<i64>
     nodes[place as usize].suffix
 }
 
-/// The greatest length of a path that begins with one of the arcs, which lead to these nodes.
-fn longest(arcs: &[DdArc], next: &[Node]) -> Option<i64>
-    requires add { Each MayAdd arcs.now }
-    requires lead { Each (λ arc. MayLead (suffixes_in next.now) arc.target) arcs.now }
-    ensures { result ≡ greatest (lengths (suffixes_in next.now) arcs.now) }
+/// The greatest length of a path that begins with one of the arcs, which lead by the routes to these nodes.
+fn longest(arcs: &[StoredArc], routes: &[Route], next: &[Node]) -> Option<i64>
+    requires add { Each MayAdd (routed_arcs routes.now arcs.now) }
+    requires lead { Each (λ arc. MayLead (suffixes_in next.now) arc.target) (routed_arcs routes.now arcs.now) }
+    ensures { result ≡ greatest (lengths (suffixes_in next.now) (routed_arcs routes.now arcs.now)) }
 {
     let mut best = None;
     'arcs: for i in 0..arcs.len() {
-        let arc = arcs[i];
+        let arc = routed(routes, arcs[i]);
         best = greater(best, along(arc, suffix_of(next, arc.target)));
     }
     best
 }
 
 /// The arcs of a node.
-fn arcs_of(arcs: &[DdArc], node: Node) -> &[DdArc]
+fn arcs_of(arcs: &[StoredArc], node: Node) -> &[StoredArc]
     requires { node.first_arc + node.arcs ≤ length arcs.now }
     ensures { result.now ≡ arcs_in arcs.now node }
 {
@@ -53,14 +55,14 @@ fn arcs_of(arcs: &[DdArc], node: Node) -> &[DdArc]
     &rest[..node.arcs as usize]
 }
 
-/// Sets the suffixes of the nodes, whose arcs lead to the next ones.
-fn end_nodes(nodes: &mut [Node], arcs: &[DdArc], next: &[Node])
-    requires { Each (MayEnd arcs.now (suffixes_in next.now)) nodes.old }
-    ensures { nodes.new ≡ map (ended_in arcs.now (suffixes_in next.now)) nodes.old }
+/// Sets the suffixes of the nodes, whose arcs lead by the routes to the next ones.
+fn end_nodes(nodes: &mut [Node], arcs: &[StoredArc], routes: &[Route], next: &[Node])
+    requires { Each (MayEnd (routed_arcs routes.now arcs.now) (suffixes_in next.now)) nodes.old }
+    ensures { nodes.new ≡ map (ended_in (routed_arcs routes.now arcs.now) (suffixes_in next.now)) nodes.old }
 {
     'nodes: for i in 0..nodes.len() {
         let own = arcs_of(arcs, nodes[i]);
-        nodes[i].suffix = longest(own, next);
+        nodes[i].suffix = longest(own, routes, next);
     }
 }
 
@@ -90,6 +92,7 @@ pub fn set_suffixes(layer: &mut Layer, next: &Layer)
     end_nodes(
         layer.nodes.as_mut_slice(),
         layer.arcs.as_slice(),
+        layer.routes.as_slice(),
         next.nodes.as_slice(),
     );
 }

@@ -7,6 +7,7 @@ ghost use Rattle.layer_candidates.specs.Members.{IsMemberOf};
 ghost use Rattle.layer_nodes.specs.Expanding.{members_from, IsExpanded};
 ghost use Rattle.layer_nodes.specs.Holding.{AreHeld, places_of};
 ghost use Rattle.layer_nodes.specs.Nodes.{shown_layer, shown_below};
+ghost use Rattle.layer_nodes.specs.Routing.{routed_arcs};
 ghost use Rattle.layer_nodes.specs.Sifting.{expanded_by};
 ghost use Rattle.layer_nodes.specs.Steps.{IsParent, IsRanked, KeepsNodes, KeepsRoom};
 ghost use Rattle.layer_nodes.specs.Stored.{rows_in};
@@ -15,8 +16,8 @@ use crate::extending::{MarkedWays, extend_layer};
 use crate::layer::Layer;
 use crate::node::Node;
 use crate::numbering::Arrangement;
+use crate::routing::{Route, StoredArc};
 use crate::striking::Strikes;
-use dp_laws::DdArc;
 use dp_model::{DpModel, OutOfMemory};
 use layer_candidates::WayTable;
 use row_region::Region;
@@ -41,7 +42,7 @@ impl Model for Expansion {
 
     ghost view = { λ e. record { most = e.room; words = vec_len e.from } };
 
-    ghost invariant = { λ e. HasExpansion e.room e.ways.found.table (vec_capacity e.ways.keys) (length e.ways.found.marks.items) (vec_len e.ways.places) };
+    ghost invariant = { λ e. HasExpansion e.room e.ways.found.table (vec_capacity e.ways.keys) (length e.ways.found.marks.items) };
 }
 
 impl Expansion {
@@ -59,7 +60,6 @@ impl Expansion {
                     marks: vec![in alloc; false; room]?,
                 },
                 keys: Vec::with_capacity(alloc, room)?,
-                places: vec![in alloc; 0u32; room]?,
             },
         })
     }
@@ -79,7 +79,8 @@ fn expand_nodes<M: DpModel>(
     descent: Descent,
     region: &mut Region,
     above: &mut [Node],
-    arcs: &mut Vec<DdArc>,
+    arcs: &mut Vec<StoredArc>,
+    routes: &mut Vec<Route>,
     below: &mut Vec<Node>,
     expansion: &mut Expansion,
 )
@@ -89,12 +90,14 @@ fn expand_nodes<M: DpModel>(
     requires members { Each (IsMemberOf (M.meaning (M.numbers model.now)) descent.k region.old) (members_from 0 above.old) }
     requires few_nodes { length above.old < 2 ^ 32 }
     requires arcs_room { length above.old * (M.meaning (M.numbers model.now)).choices descent.k ≤ vec_capacity arcs.old }
+    requires routes_room { length above.old * (M.meaning (M.numbers model.now)).choices descent.k ≤ vec_capacity routes.old }
     requires below_room { length above.old * (M.meaning (M.numbers model.now)).choices descent.k ≤ vec_capacity below.old }
     requires room { length above.old * (M.meaning (M.numbers model.now)).choices descent.k ≤ expansion.old.most }
     requires spare { length above.old * (M.meaning (M.numbers model.now)).choices descent.k + 1 ≤ region.old.spare }
-    ensures expanded { IsExpanded (expanded_by descent.strikes (M.meaning (M.numbers model.now)) descent.k) (M.meaning (M.numbers model.now)) descent.k (held_row region.old) above.old above.new arcs.new.items (held_row region.new) below.new.items }
+    ensures expanded { IsExpanded (expanded_by descent.strikes (M.meaning (M.numbers model.now)) descent.k) (M.meaning (M.numbers model.now)) descent.k (held_row region.old) above.old above.new (routed_arcs routes.new.items arcs.new.items) (held_row region.new) below.new.items }
     ensures exchanged { HasExchanged region.old [] region.new (rows_in below.new.items) }
     ensures arcs_capacity { vec_capacity arcs.new ≡ vec_capacity arcs.old }
+    ensures routes_capacity { vec_capacity routes.old ≤ vec_capacity routes.new }
     ensures below_capacity { vec_capacity below.new ≡ vec_capacity below.old }
     ensures expansion { expansion.new ≡ expansion.old }
 {
@@ -108,20 +111,12 @@ fn expand_nodes<M: DpModel>(
         &mut expansion.ways.found,
     );
     match descent.strikes {
-        Strikes::AtMost(threshold) => expansion.ways.arrange_unstruck(
-            model,
-            descent.k + 1,
-            threshold,
-            region,
-            arcs.as_mut_slice(),
-            below,
-        ),
-        Strikes::Nothing => expansion.ways.arrange(
-            region,
-            model.first_live(descent.k + 1),
-            arcs.as_mut_slice(),
-            below,
-        ),
+        Strikes::AtMost(threshold) => expansion
+            .ways
+            .arrange_unstruck(model, descent.k + 1, threshold, region, routes, below),
+        Strikes::Nothing => expansion
+            .ways
+            .arrange(region, model.first_live(descent.k + 1), routes, below),
     }
 }
 
@@ -168,6 +163,7 @@ pub fn expand<M: DpModel>(
         region,
         above.nodes.as_mut_slice(),
         &mut above.arcs,
+        &mut above.routes,
         &mut next.nodes,
         expansion,
     );

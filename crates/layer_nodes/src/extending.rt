@@ -10,9 +10,10 @@ ghost use Rattle.layer_candidates.specs.Members.{members_as, IsMemberOf};
 ghost use Rattle.layer_candidates.specs.WayTables.{table_rows, HasTableRoom, IsWayTable, KeepsTableRoom, TookIn};
 ghost use Rattle.row_region.specs.Region.{IsLive};
 ghost use Rattle.layer_nodes.specs.Expanding.{member_of, members_from, Trial, trials_by, trials_of, spanned, all_spanned, marked, AreTried};
+ghost use Rattle.layer_nodes.specs.Routing.{to_ways};
 
 use crate::node::Node;
-use dp_laws::DdArc;
+use crate::routing::StoredArc;
 use dp_model::DpModel;
 use layer_candidates::{Member, Parent, WayTable, extend_by, row_of, take_row};
 use row_region::{Region, RowId};
@@ -52,7 +53,7 @@ fn try_by<M: DpModel>(
     region: &mut Region,
     spot: &mut RowId,
     found: &mut MarkedWays,
-    arcs: &mut Vec<DdArc>,
+    arcs: &mut Vec<StoredArc>,
 )
     requires layer { k < (M.meaning (M.numbers model.now)).vars }
     requires state { IsTrue ((M.meaning (M.numbers model.now)).is_state k attempt.parent.state.now) }
@@ -71,8 +72,8 @@ fn try_by<M: DpModel>(
     requires arcs_room { length arcs.old.items < vec_capacity arcs.old }
     ensures extended { TookIn (M.meaning (M.numbers model.now)) k attempt.entry.parent.step attempt.entry.parent.state.now attempt.entry.parent.value (attempt.entry.decision ∷ []) region.old found.old.table region.new found.new.table }
     ensures exchanged { HasExchanged region.old (spot.old.place ∷ table_rows found.old.table) region.new (spot.new.place ∷ table_rows found.new.table) }
-    ensures tried { (ts : List Trial) → AreTried (M.meaning (M.numbers model.now)) k (way_row region.old found.old.table.ways.items) (length found.old.table.ways.items) ts found.old.marks.items arcs.old.items
-        → AreTried (M.meaning (M.numbers model.now)) k (way_row region.new found.new.table.ways.items) (length found.new.table.ways.items) (ts ++ trials_by (M.meaning (M.numbers model.now)) k attempt.entry.parent.state.now attempt.entry.exact (attempt.entry.decision ∷ [])) found.new.marks.items arcs.new.items }
+    ensures tried { (ts : List Trial) → AreTried (M.meaning (M.numbers model.now)) k (way_row region.old found.old.table.ways.items) (length found.old.table.ways.items) ts found.old.marks.items (to_ways arcs.old.items)
+        → AreTried (M.meaning (M.numbers model.now)) k (way_row region.new found.new.table.ways.items) (length found.new.table.ways.items) (ts ++ trials_by (M.meaning (M.numbers model.now)) k attempt.entry.parent.state.now attempt.entry.exact (attempt.entry.decision ∷ [])) found.new.marks.items (to_ways arcs.new.items) }
     ensures live { found.new.table.live ≡ found.old.table.live }
     ensures room { KeepsTableRoom found.old.table found.new.table }
     ensures marks { length found.new.marks.items ≡ length found.old.marks.items }
@@ -97,11 +98,10 @@ fn try_by<M: DpModel>(
         taken.place,
         attempt.exact,
     );
-    arcs.push_reserved(DdArc {
+    arcs.push_reserved(StoredArc {
         decision: attempt.decision,
-        target: Some(taken.place as u32),
+        way: taken.place as u32,
         gain: taken.gain,
-        longer: 0,
     });
 }
 
@@ -122,7 +122,7 @@ fn try_node<M: DpModel>(
     region: &mut Region,
     spot: &mut RowId,
     found: &mut MarkedWays,
-    arcs: &mut Vec<DdArc>,
+    arcs: &mut Vec<StoredArc>,
 )
     requires layer { k < (M.meaning (M.numbers model.now)).vars }
     requires state { IsTrue ((M.meaning (M.numbers model.now)).is_state k node.state.now) }
@@ -140,8 +140,8 @@ fn try_node<M: DpModel>(
     requires arcs_room { length arcs.old.items + (M.meaning (M.numbers model.now)).choices k ≤ vec_capacity arcs.old }
     ensures extended { TookIn (M.meaning (M.numbers model.now)) k node.entry.member.step node.entry.state.now node.entry.member.value (below ((M.meaning (M.numbers model.now)).choices k)) region.old found.old.table region.new found.new.table }
     ensures exchanged { HasExchanged region.old (spot.old.place ∷ table_rows found.old.table) region.new (spot.new.place ∷ table_rows found.new.table) }
-    ensures tried { (ts : List Trial) → AreTried (M.meaning (M.numbers model.now)) k (way_row region.old found.old.table.ways.items) (length found.old.table.ways.items) ts found.old.marks.items arcs.old.items
-        → AreTried (M.meaning (M.numbers model.now)) k (way_row region.new found.new.table.ways.items) (length found.new.table.ways.items) (ts ++ trials_by (M.meaning (M.numbers model.now)) k node.entry.state.now node.entry.exact (below ((M.meaning (M.numbers model.now)).choices k))) found.new.marks.items arcs.new.items }
+    ensures tried { (ts : List Trial) → AreTried (M.meaning (M.numbers model.now)) k (way_row region.old found.old.table.ways.items) (length found.old.table.ways.items) ts found.old.marks.items (to_ways arcs.old.items)
+        → AreTried (M.meaning (M.numbers model.now)) k (way_row region.new found.new.table.ways.items) (length found.new.table.ways.items) (ts ++ trials_by (M.meaning (M.numbers model.now)) k node.entry.state.now node.entry.exact (below ((M.meaning (M.numbers model.now)).choices k))) found.new.marks.items (to_ways arcs.new.items) }
     ensures live { found.new.table.live ≡ found.old.table.live }
     ensures room { KeepsTableRoom found.old.table found.new.table }
     ensures marks { length found.new.marks.items ≡ length found.old.marks.items }
@@ -204,7 +204,7 @@ pub fn extend_layer<M: DpModel>(
     region: &mut Region,
     from: &mut [i64],
     nodes: &mut [Node],
-    arcs: &mut Vec<DdArc>,
+    arcs: &mut Vec<StoredArc>,
     found: &mut MarkedWays,
 )
     requires layer { k < (M.meaning (M.numbers model.now)).vars }
@@ -219,7 +219,7 @@ pub fn extend_layer<M: DpModel>(
     ensures distinct { AreDistinct (M.meaning (M.numbers model.now)) (k + 1) (way_row region.new found.new.table.ways.items) found.new.table.ways.items }
     ensures list { (paths : ℕ → List ℕ) → all_reached paths (way_row region.new found.new.table.ways.items) found.new.table.ways.items ≡ all_joined [] (candidates (M.meaning (M.numbers model.now)) k (members_as paths region.old (members_from 0 nodes.old))) }
     ensures exchanged { HasExchanged region.old [] region.new (table_rows found.new.table) }
-    ensures tried { AreTried (M.meaning (M.numbers model.now)) k (way_row region.new found.new.table.ways.items) (length found.new.table.ways.items) (trials_of (M.meaning (M.numbers model.now)) k (held_row region.old) nodes.old) found.new.marks.items arcs.new.items }
+    ensures tried { AreTried (M.meaning (M.numbers model.now)) k (way_row region.new found.new.table.ways.items) (length found.new.table.ways.items) (trials_of (M.meaning (M.numbers model.now)) k (held_row region.old) nodes.old) found.new.marks.items (to_ways arcs.new.items) }
     ensures nodes { nodes.new ≡ all_spanned (M.meaning (M.numbers model.now)) k (held_row region.old) 0 nodes.old }
     ensures few { length found.new.table.ways.items ≤ length nodes.old * (M.meaning (M.numbers model.now)).choices k }
     ensures room { KeepsTableRoom found.old.table found.new.table }

@@ -7,40 +7,40 @@ ghost use Rattle.dp_laws.specs.Rules.Redirects.{with_redirected};
 ghost use Rattle.dp_laws.specs.Rules.Reducing.{keep_redirects};
 ghost use Rattle.layer_candidates.specs.HeldRows.{AreLive, HasExchanged};
 ghost use Rattle.layer_nodes.specs.Holding.{AreHeld, places_of};
-ghost use Rattle.layer_nodes.specs.Keeping.{kept_arc};
+ghost use Rattle.layer_nodes.specs.Keeping.{kept_route};
 ghost use Rattle.layer_nodes.specs.Nodes.{shown_layer, shown_below};
-ghost use Rattle.layer_nodes.specs.Redirecting.{AreRedirected};
+ghost use Rattle.layer_nodes.specs.Redirecting.{AreRerouted};
 ghost use Rattle.layer_nodes.specs.Steps.{AreAmong, MayBeLengthened, KeepsNodes, KeepsRoom};
 
 use crate::layer::Layer;
 use crate::node::nodes_from;
-use crate::redirecting::put_arc;
-use dp_laws::DdArc;
+use crate::redirecting::put_route;
+use crate::routing::Route;
 use layer_candidates::give_rows;
 use row_region::Region;
 
-/// The arc without its target where that is at or after the width, or none where the arc stays as it is.
-fn lose_target(arc: DdArc, width: usize) -> Option<DdArc>
-    ensures { unwrap_or result arc ≡ kept_arc width arc }
+/// The route without its target where that is at or after the width, or none where the route stays as it is.
+fn lose_target(route: Route, width: usize) -> Option<Route>
+    ensures { unwrap_or result route ≡ kept_route width route }
 {
-    let place = arc.target?;
+    let place = route.target?;
     if (place as usize) < width {
         return None;
     }
-    Some(DdArc {
+    Some(Route {
         target: None,
-        ..arc
+        ..route
     })
 }
 
-/// Arcs whose targets are at or after the width lose them.
-fn keep_targets(arcs: &mut [DdArc], width: usize)
-    ensures { (layer : List DdNode) → width ≤ length layer → AreRedirected (keep_redirects width layer) arcs.old arcs.new }
+/// Routes whose targets are at or after the width lose them.
+fn keep_targets(routes: &mut [Route], width: usize)
+    ensures { (layer : List DdNode) → width ≤ length layer → AreRerouted (keep_redirects width layer) routes.old routes.new }
 {
-    'arcs: for i in 0..arcs.len() {
-        let arc = arcs[i];
-        let new = lose_target(arc, width);
-        put_arc(arcs, i, arc, new);
+    'routes: for i in 0..routes.len() {
+        let route = routes[i];
+        let new = lose_target(route, width);
+        put_route(routes, i, route, new);
     }
 }
 
@@ -50,7 +50,7 @@ pub(crate) fn keep_layer_targets(layer: &mut Layer, width: usize)
     ensures nodes { (paths : ℕ → List ℕ) (next : List DdNode) → width ≤ length next → shown_layer paths layer.new.nodes ≡ with_redirected (keep_redirects width next) (shown_layer paths layer.old.nodes) }
     ensures rest { KeepsNodes layer.old layer.new }
 {
-    keep_targets(layer.arcs.as_mut_slice(), width);
+    keep_targets(layer.routes.as_mut_slice(), width);
 }
 
 /// Keeps the first nodes of the next layer, as many as the width, as a restricted layer is reduced; the arcs of the nodes above

@@ -7,6 +7,7 @@ ghost use Rattle.layer_nodes.specs.Stored.{bare_of};
 ghost use Rattle.layer_nodes.specs.Steps.{KeepsRoom};
 
 use crate::node::{Node, lone_node};
+use crate::routing::{Route, StoredArc, routed};
 use dp_laws::DdArc;
 use dp_model::OutOfMemory;
 use layer_candidates::{give_rows, put_row};
@@ -23,7 +24,9 @@ pub struct Layer {
     pub(crate) words: usize,
     pub(crate) room: usize,
     pub(crate) nodes: Vec<Node>,
-    pub(crate) arcs: Vec<DdArc>,
+    pub(crate) arcs: Vec<StoredArc>,
+    // for each way to the next layer where its arcs lead
+    pub(crate) routes: Vec<Route>,
     // the region when it had the rows of the nodes
     pub(crate) held: Snapshot<Region>,
 }
@@ -32,18 +35,19 @@ impl Model for Layer {
     ghost use Rattle.std.specs.Prelude.{map, vec_capacity};
     ghost use Rattle.layer_candidates.specs.HeldRows.{held_row};
     ghost use Rattle.layer_nodes.specs.Nodes.{LayerView};
+    ghost use Rattle.layer_nodes.specs.Routing.{routed_arcs};
     ghost use Rattle.layer_nodes.specs.Stored.{node_view_by, HasLayer};
 
     ghost Value = { LayerView };
 
     ghost view = { λ l. record {
       words = l.words;
-      nodes = map (node_view_by (held_row l.held.value) l.arcs.items) l.nodes.items;
+      nodes = map (node_view_by (held_row l.held.value) (routed_arcs l.routes.items l.arcs.items)) l.nodes.items;
       nodes_room = l.room;
       arcs_room = vec_capacity l.arcs;
     } };
 
-    ghost invariant = { λ l. HasLayer l.room l.nodes.items (vec_capacity l.nodes) l.arcs.items };
+    ghost invariant = { λ l. HasLayer l.room l.nodes.items (vec_capacity l.nodes) l.arcs.items (vec_capacity l.arcs) (vec_capacity l.routes) };
 }
 
 impl fmt::Debug for Layer {
@@ -53,6 +57,7 @@ impl fmt::Debug for Layer {
             .field("room", &self.room)
             .field("nodes", &self.nodes)
             .field("arcs", &self.arcs)
+            .field("routes", &self.routes)
             .finish_non_exhaustive()
     }
 }
@@ -99,6 +104,7 @@ impl Layer {
             room: nodes,
             nodes: Vec::with_capacity(alloc, nodes)?,
             arcs: Vec::with_capacity(alloc, arcs)?,
+            routes: Vec::with_capacity(alloc, arcs)?,
             held: Snapshot::of(region),
         })
     }
@@ -114,6 +120,7 @@ impl Layer {
     {
         let place = put_row(region, row);
         self.arcs.clear();
+        self.routes.clear();
         self.nodes.clear();
         self.nodes
             .push_reserved(lone_node(place, value, rank, hash, true));
@@ -133,6 +140,7 @@ impl Layer {
         ensures rooms { KeepsRoom self.old self.new }
     {
         self.arcs.clear();
+        self.routes.clear();
         list_all(newest.nodes.as_slice(), &mut self.nodes);
         self.held = Snapshot::of(region);
     }
@@ -232,6 +240,7 @@ impl Layer {
         requires { IsSome (option_and_then (λ n. slice_get n.arcs i) (slice_get self.now.nodes node)) }
         ensures { option_and_then (λ n. slice_get n.arcs i) (slice_get self.now.nodes node) ≡ Some result }
     {
-        self.arcs[self.nodes[node].first_arc as usize + i]
+        let arc = self.arcs[self.nodes[node].first_arc as usize + i];
+        routed(self.routes.as_slice(), arc)
     }
 }

@@ -1,8 +1,9 @@
-//! The ways to a layer in order become its nodes, and the arcs lead to their places.
+//! The ways to a layer in order become its nodes, and their routes lead to the places of these.
 
-ghost use Rattle.std.specs.Prelude.{◌≡◌, ◌≢◌, ℕ, ◌<◌, ◌≤◌, ◌^◌, Bool, List, length, map, None, vec_capacity, vec_len};
+ghost use Rattle.std.specs.Prelude.{◌≡◌, ◌≢◌, ℕ, ◌<◌, ◌≤◌, ◌^◌, Bool, List, length, map, replicate, None, vec_capacity};
 ghost use Rattle.dp_model.specs.Lists.{Each};
-ghost use Rattle.layer_nodes.specs.Expanding.{mark_at, key_in, number_at, IsNumbered, LeadsWithin, led, node_of, AreArranged};
+ghost use Rattle.layer_nodes.specs.Expanding.{mark_at, key_in, number_at, IsNumbered, node_of, AreArranged};
+ghost use Rattle.layer_nodes.specs.Routing.{nowhere, IsPlain};
 ghost use Rattle.layer_nodes.specs.Sifting.{AreSifted};
 ghost use Rattle.layer_candidates.specs.HeldRows.{held_row, AreLive, HasLeft};
 ghost use Rattle.layer_candidates.specs.Rows.{HasZeros};
@@ -12,7 +13,7 @@ ghost use Rattle.row_region.specs.Region.{IsLive};
 
 use crate::extending::MarkedWays;
 use crate::node::Node;
-use dp_laws::DdArc;
+use crate::routing::{Route, nowhere};
 use dp_model::DpModel;
 use layer_candidates::{Key, Way, list_unstruck, put_in_order, sort};
 use row_region::Region;
@@ -24,61 +25,47 @@ pub struct Arrangement {
     pub found: MarkedWays,
     // the keys of the ways in the reduction order
     pub(crate) keys: Vec<Key>,
-    // for each way one more than its number in that order, or zero
-    pub(crate) places: Vec<u32>,
 }
 
-/// Numbers the ways by the places of their keys. Each number is kept as one more, and what stands at other places stays.
-fn number(keys: &[Key], places: &mut [u32])
-    requires within { Each (λ key. key.place < length places.old) keys.now }
+/// Becomes the routes of this many ways, which lead nowhere.
+fn clear_routes(routes: &mut Vec<Route>, count: usize)
+    requires room { count ≤ vec_capacity routes.old }
+    ensures routes { routes.new.items ≡ replicate count nowhere }
+    ensures capacity { vec_capacity routes.old ≤ vec_capacity routes.new }
+{
+    routes.clear();
+    let _ = routes.resize(count, nowhere());
+}
+
+/// Numbers the ways by the places of their keys: the route of each leads to its number. The routes of other ways stay.
+fn number(keys: &[Key], routes: &mut [Route])
+    requires within { Each (λ key. key.place < length routes.old) keys.now }
     requires small { length keys.now < 2 ^ 32 }
-    ensures numbered { (j : ℕ) → j < length keys.now → IsNumbered (length keys.now) keys.now places.new (key_in keys.now j).place }
-    ensures others { (p : ℕ) → ((j : ℕ) → j < length keys.now → (key_in keys.now j).place ≢ p) → number_at places.new p ≡ number_at places.old p }
+    requires plain { Each IsPlain routes.old }
+    ensures numbered { (j : ℕ) → j < length keys.now → IsNumbered (length keys.now) keys.now routes.new (key_in keys.now j).place }
+    ensures others { (p : ℕ) → ((j : ℕ) → j < length keys.now → (key_in keys.now j).place ≢ p) → number_at routes.new p ≡ number_at routes.old p }
+    ensures plain { Each IsPlain routes.new }
 {
     'keys: for i in 0..keys.len() {
-        places[keys[i].place as usize] = i as u32 + 1;
+        routes[keys[i].place as usize] = Route {
+            target: Some(i as u32),
+            longer: 0,
+        };
     }
 }
 
-/// Numbers those of this many ways that have keys, by the places of these. The others have no number.
-fn number_some(keys: &[Key], count: usize, places: &mut [u32])
-    requires room { count ≤ length places.old }
-    requires within { Each (λ key. key.place < length places.old) keys.now }
+/// Numbers those of this many ways that have keys, by the places of these. The routes of the others lead nowhere.
+fn number_ways(keys: &[Key], count: usize, routes: &mut Vec<Route>)
+    requires room { count ≤ vec_capacity routes.old }
+    requires within { Each (λ key. key.place < count) keys.now }
     requires small { length keys.now < 2 ^ 32 }
-    ensures numbered { (j : ℕ) → j < length keys.now → IsNumbered (length keys.now) keys.now places.new (key_in keys.now j).place }
-    ensures others { (p : ℕ) → p < count → Each (λ key. key.place ≢ p) keys.now → number_at places.new p ≡ None }
+    ensures numbered { (j : ℕ) → j < length keys.now → IsNumbered (length keys.now) keys.now routes.new.items (key_in keys.now j).place }
+    ensures others { (p : ℕ) → Each (λ key. key.place ≢ p) keys.now → number_at routes.new.items p ≡ None }
+    ensures plain { Each IsPlain routes.new.items }
+    ensures capacity { vec_capacity routes.old ≤ vec_capacity routes.new }
 {
-    places[..count].fill(0);
-    number(keys, places);
-}
-
-/// The number of the way at the place, or none where it has no number.
-fn number_at(place: u32, places: &[u32]) -> Option<u32>
-    requires { place < length places.now }
-    ensures { result ≡ number_at places.now place }
-{
-    places[place as usize].checked_sub(1)
-}
-
-/// The arc with the number of its target, or without a target where it has no number.
-fn led(arc: DdArc, places: &[u32]) -> DdArc
-    requires { LeadsWithin (length places.now) arc }
-    ensures { result ≡ led places.now arc }
-{
-    DdArc {
-        target: number_at(arc.target.unwrap(), places),
-        ..arc
-    }
-}
-
-/// The arcs lead to the numbers of their targets, and those whose target has none lead nowhere.
-fn lead(arcs: &mut [DdArc], places: &[u32])
-    requires { Each (LeadsWithin (length places.now)) arcs.old }
-    ensures { arcs.new ≡ map (led places.now) arcs.old }
-{
-    'arcs: for i in 0..arcs.len() {
-        arcs[i] = led(arcs[i], places);
-    }
+    clear_routes(routes, count);
+    number(keys, routes.as_mut_slice());
 }
 
 /// The node of a key's way, with its mark.
@@ -116,74 +103,68 @@ fn list_nodes(ways: &[Way], keys: &[Key], marks: &[bool], nodes: &mut Vec<Node>)
 }
 
 impl Arrangement {
-    /// Puts the ways into the reduction order, in which they become the nodes, each with the mark of its place; the arcs, which lead
-    /// to places of ways, lead to those of the nodes. The first `live` cells of all rows are zero, and are not compared.
+    /// Puts the ways into the reduction order, in which they become the nodes, each with the mark of its place; the routes of the
+    /// ways lead to the places of the nodes. The first `live` cells of all rows are zero, and are not compared.
     pub fn arrange(
         &mut self,
         region: &Region,
         live: usize,
-        arcs: &mut [DdArc],
+        routes: &mut Vec<Route>,
         nodes: &mut Vec<Node>,
     )
         requires held { Each (IsLive region.now) (rows_of self.old.found.table.ways.items) }
         requires zeros { (i : ℕ) → i < length self.old.found.table.ways.items → HasZeros live (way_row region.now self.old.found.table.ways.items i) }
         requires small { length self.old.found.table.ways.items < 2 ^ 32 }
-        requires targets { Each (LeadsWithin (length self.old.found.table.ways.items)) arcs.old }
         requires marks_room { length self.old.found.table.ways.items ≤ length self.old.found.marks.items }
         requires keys_room { length self.old.found.table.ways.items ≤ vec_capacity self.old.keys }
-        requires places_room { length self.old.found.table.ways.items ≤ length self.old.places.items }
+        requires routes_room { length self.old.found.table.ways.items ≤ vec_capacity routes.old }
         requires nodes_room { length self.old.found.table.ways.items ≤ vec_capacity nodes.old }
-        ensures arranged { AreArranged (held_row region.now) self.old.found.table.ways.items self.old.found.marks.items arcs.old arcs.new nodes.new.items }
+        ensures arranged { AreArranged (held_row region.now) self.old.found.table.ways.items self.old.found.marks.items routes.new.items nodes.new.items }
         ensures found { self.new.found ≡ self.old.found }
         ensures keys_capacity { vec_capacity self.new.keys ≡ vec_capacity self.old.keys }
-        ensures places { vec_len self.new.places ≡ vec_len self.old.places }
+        ensures routes_capacity { vec_capacity routes.old ≤ vec_capacity routes.new }
         ensures nodes_capacity { vec_capacity nodes.new ≡ vec_capacity nodes.old }
     {
         let ways = self.found.table.ways.as_slice();
         put_in_order(region, live, ways, &mut self.keys);
         let keys = self.keys.as_slice();
-        let places = self.places.as_mut_slice();
-        number(keys, places);
-        lead(arcs, places);
+        number_ways(keys, ways.len(), routes);
         let marks = self.found.marks.as_slice();
         list_nodes(ways, keys, marks, nodes);
     }
 
     /// Puts the ways that are not struck into the reduction order, in which they become the nodes, each with the mark of its place;
-    /// the arcs, which lead to places of ways, lead to those of the nodes, and those into a struck way lead nowhere. The rows of the
-    /// struck ways are given back.
+    /// the routes of the ways lead to the places of the nodes, and those of struck ways lead nowhere. The rows of the struck ways
+    /// are given back.
     pub fn arrange_unstruck<M: DpModel>(
         &mut self,
         model: &M,
         k: usize,
         threshold: Option<i64>,
         region: &mut Region,
-        arcs: &mut [DdArc],
+        routes: &mut Vec<Route>,
         nodes: &mut Vec<Node>,
     )
         requires layer { k ≤ (M.meaning (M.numbers model.now)).vars }
         requires distinct { AreDistinct (M.meaning (M.numbers model.now)) k (way_row region.old self.old.found.table.ways.items) self.old.found.table.ways.items }
         requires held { AreLive region.old (rows_of self.old.found.table.ways.items) }
         requires small { length self.old.found.table.ways.items < 2 ^ 32 }
-        requires targets { Each (LeadsWithin (length self.old.found.table.ways.items)) arcs.old }
         requires marks_room { length self.old.found.table.ways.items ≤ length self.old.found.marks.items }
         requires keys_room { length self.old.found.table.ways.items ≤ vec_capacity self.old.keys }
-        requires places_room { length self.old.found.table.ways.items ≤ length self.old.places.items }
+        requires routes_room { length self.old.found.table.ways.items ≤ vec_capacity routes.old }
         requires nodes_room { length self.old.found.table.ways.items ≤ vec_capacity nodes.old }
-        ensures arranged { AreSifted (M.meaning (M.numbers model.now)) k threshold region.old self.old.found.table.ways.items self.old.found.marks.items arcs.old arcs.new nodes.new.items }
+        ensures arranged { AreSifted (M.meaning (M.numbers model.now)) k threshold region.old self.old.found.table.ways.items self.old.found.marks.items routes.new.items nodes.new.items }
         ensures left { HasLeft region.old (rows_of self.old.found.table.ways.items) region.new (rows_in nodes.new.items) }
         ensures found { self.new.found ≡ self.old.found }
         ensures keys_capacity { vec_capacity self.new.keys ≡ vec_capacity self.old.keys }
-        ensures places { vec_len self.new.places ≡ vec_len self.old.places }
+        ensures routes_capacity { vec_capacity routes.old ≤ vec_capacity routes.new }
         ensures nodes_capacity { vec_capacity nodes.new ≡ vec_capacity nodes.old }
     {
         let ways = self.found.table.ways.as_slice();
         list_unstruck(model, k, threshold, region, ways, &mut self.keys);
         sort(region, model.first_live(k), &mut self.keys);
         let keys = self.keys.as_slice();
-        let places = self.places.as_mut_slice();
-        number_some(keys, ways.len(), places);
-        lead(arcs, places);
+        number_ways(keys, ways.len(), routes);
         let marks = self.found.marks.as_slice();
         list_nodes(ways, keys, marks, nodes);
     }

@@ -1,16 +1,15 @@
 //! Where the arcs into a layer are redirected when its nodes are put into order, taken out or merged.
 
-ghost use Rattle.std.specs.Prelude.{◌≡◌, ◌++◌, ℕ, List, IfOk, Some, map, set, slice_get, unwrap_or};
+ghost use Rattle.std.specs.Prelude.{◌≡◌, ◌++◌, ℕ, List, IfOk, Some, set, slice_get, unwrap_or};
 ghost use Rattle.dp_model.specs.Lists.{Each};
-ghost use Rattle.dp_model.specs.Numbers.{IsFar};
-ghost use Rattle.dp_laws.specs.Rules.Redirects.{Redirect, redirected, with_redirected};
+ghost use Rattle.dp_laws.specs.Rules.Redirects.{Redirect, with_redirected};
 ghost use Rattle.dp_laws.specs.Rules.Reducing.{staying};
 ghost use Rattle.layer_nodes.specs.Nodes.{shown_layer};
-ghost use Rattle.layer_nodes.specs.Redirecting.{redirect_of, IsShort, IsRedirected, AreRedirected};
+ghost use Rattle.layer_nodes.specs.Redirecting.{redirect_of, IsShort, IsRerouted, AreRerouted};
 ghost use Rattle.layer_nodes.specs.Steps.{MayBeLengthened, KeepsNodes};
 
 use crate::layer::Layer;
-use dp_laws::DdArc;
+use crate::routing::Route;
 use dp_model::{MOST_LEADERS, OutOfMemory};
 use std::alloc::Global;
 use std::marker::Model;
@@ -85,68 +84,66 @@ fn redirect_of(target: Option<u32>, redirects: &[Option<Redirect>]) -> Option<Re
     }
 }
 
-/// The arc with its new target, and lengthened by as much.
-fn redirect_arc(arc: DdArc, redirects: &[Option<Redirect>]) -> DdArc
+/// The route with its new target, and lengthened by as much.
+fn redirect_route(route: Route, redirects: &[Option<Redirect>]) -> Route
     requires short { Each IsShort redirects.now }
-    ensures { IsFar arc.longer → result ≡ redirected redirects.now arc }
+    ensures { IsRerouted redirects.now route result }
 {
-    match redirect_of(arc.target, redirects) {
-        Some(redirect) => DdArc {
+    match redirect_of(route.target, redirects) {
+        Some(redirect) => Route {
             target: Some(redirect.place),
-            longer: arc.longer.wrapping_add(redirect.longer),
-            ..arc
+            longer: route.longer.wrapping_add(redirect.longer),
         },
-        None => DdArc {
+        None => Route {
             target: None,
-            ..arc
+            ..route
         },
     }
 }
 
-/// The arcs get new targets. It says nothing of an arc that is too long to be lengthened.
-pub(crate) fn redirect_arcs(arcs: &mut [DdArc], redirects: &[Option<Redirect>])
+/// The routes get new targets. It says nothing of a route that is too long to be lengthened.
+fn redirect_routes(routes: &mut [Route], redirects: &[Option<Redirect>])
     requires short { Each IsShort redirects.now }
-    ensures each { AreRedirected redirects.now arcs.old arcs.new }
-    ensures all { Each (λ arc. IsFar arc.longer) arcs.old → arcs.new ≡ map (redirected redirects.now) arcs.old }
+    ensures { AreRerouted redirects.now routes.old routes.new }
 {
-    'arcs: for i in 0..arcs.len() {
-        arcs[i] = redirect_arc(arcs[i], redirects);
+    'routes: for i in 0..routes.len() {
+        routes[i] = redirect_route(routes[i], redirects);
     }
 }
 
-/// The arc with its new target where its old one stands at `first` or after it, or none where it keeps it. The redirects are those
-/// of the places from `first` on.
-fn redirect_after(arc: DdArc, first: usize, redirects: &[Option<Redirect>]) -> Option<DdArc>
+/// The route with its new target where its old one stands at `first` or after it, or none where it keeps it. The redirects are
+/// those of the places from `first` on.
+fn redirect_after(route: Route, first: usize, redirects: &[Option<Redirect>]) -> Option<Route>
     requires short { Each IsShort redirects.now }
-    ensures { IsRedirected (staying first ++ redirects.now) arc (unwrap_or result arc) }
+    ensures { IsRerouted (staying first ++ redirects.now) route (unwrap_or result route) }
 {
-    let place = (arc.target? as usize).checked_sub(first)?;
-    let moved = DdArc {
+    let place = (route.target? as usize).checked_sub(first)?;
+    let moved = Route {
         target: Some(place as u32),
-        ..arc
+        ..route
     };
-    Some(redirect_arc(moved, redirects))
+    Some(redirect_route(moved, redirects))
 }
 
-/// The arc at the place, which is told, becomes the new one where there is one.
-pub(crate) fn put_arc(arcs: &mut [DdArc], i: usize, arc: DdArc, new: Option<DdArc>)
-    requires { slice_get arcs.old i ≡ Some arc }
-    ensures { arcs.new ≡ set arcs.old i (unwrap_or new arc) }
+/// The route at the place, which is told, becomes the new one where there is one.
+pub(crate) fn put_route(routes: &mut [Route], i: usize, route: Route, new: Option<Route>)
+    requires { slice_get routes.old i ≡ Some route }
+    ensures { routes.new ≡ set routes.old i (unwrap_or new route) }
 {
     if let Some(new) = new {
-        arcs[i] = new;
+        routes[i] = new;
     }
 }
 
-/// The arcs whose targets stand at `first` or after it get new ones, by the redirects of the places from there on.
-fn redirect_arcs_after(arcs: &mut [DdArc], first: usize, redirects: &[Option<Redirect>])
+/// The routes whose targets stand at `first` or after it get new ones, by the redirects of the places from there on.
+fn redirect_routes_after(routes: &mut [Route], first: usize, redirects: &[Option<Redirect>])
     requires short { Each IsShort redirects.now }
-    ensures { AreRedirected (staying first ++ redirects.now) arcs.old arcs.new }
+    ensures { AreRerouted (staying first ++ redirects.now) routes.old routes.new }
 {
-    'arcs: for i in 0..arcs.len() {
-        let arc = arcs[i];
-        let new = redirect_after(arc, first, redirects);
-        put_arc(arcs, i, arc, new);
+    'routes: for i in 0..routes.len() {
+        let route = routes[i];
+        let new = redirect_after(route, first, redirects);
+        put_route(routes, i, route, new);
     }
 }
 
@@ -157,7 +154,7 @@ pub(crate) fn redirect_layer_after(layer: &mut Layer, first: usize, redirects: &
     ensures nodes { (paths : ℕ → List ℕ) → shown_layer paths layer.new.nodes ≡ with_redirected (staying first ++ redirects.now) (shown_layer paths layer.old.nodes) }
     ensures rest { KeepsNodes layer.old layer.new }
 {
-    redirect_arcs_after(layer.arcs.as_mut_slice(), first, redirects);
+    redirect_routes_after(layer.routes.as_mut_slice(), first, redirects);
 }
 
 /// The arcs of the layer get new targets, and nothing else of it changes.
@@ -167,5 +164,5 @@ pub(crate) fn redirect_layer(layer: &mut Layer, redirects: &[Option<Redirect>])
     ensures nodes { (paths : ℕ → List ℕ) → shown_layer paths layer.new.nodes ≡ with_redirected redirects.now (shown_layer paths layer.old.nodes) }
     ensures rest { KeepsNodes layer.old layer.new }
 {
-    redirect_arcs(layer.arcs.as_mut_slice(), redirects);
+    redirect_routes(layer.routes.as_mut_slice(), redirects);
 }

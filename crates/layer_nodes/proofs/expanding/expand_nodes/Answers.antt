@@ -1,19 +1,14 @@
-use Rattle.std.proofs.Common.{rules, ◌≡◌, ℕ, ◌+◌, ◌*◌, ◌≤◌, List, [], length, sym, ap, subst}
-use Rattle.std.specs.Vec.{with_items}
-use Rattle.std.proofs.lemmas.List.{with_items_is}
-use Rattle.dp_model.specs.Lists.{Each}
-use Rattle.dp_laws.specs.Rules.Compiling.{expand}
-use Rattle.dp_laws.specs.declared.arc.DdArc.{DdArc}
+use Rattle.std.proofs.Common.{ℕ, ◌*◌, ◌≤◌, [], length, sym, ap, subst}
 use Rattle.layer_candidates.specs.HeldRows.{held_row}
-use Rattle.layer_candidates.specs.Ways.{rows_of, way_row}
+use Rattle.layer_candidates.specs.Ways.{rows_of}
 use Rattle.layer_candidates.proofs.HeldRows.{exchange-then}
-use Rattle.layer_nodes.specs.Expanding.{IsExpanded, AreArranged, LeadsWithin, trials_of}
-use Rattle.layer_nodes.specs.Sifting.{AreSifted, expand_sifted, expanded_by}
+use Rattle.layer_nodes.specs.Expanding.{IsExpanded}
+use Rattle.layer_nodes.specs.Routing.{routed_arcs}
+use Rattle.layer_nodes.specs.Sifting.{expanded_by}
 use Rattle.layer_nodes.specs.Stored.{Room, rows_in}
 use Rattle.layer_nodes.proofs.Expanded.{whole}
 use Rattle.layer_nodes.proofs.KeyRows.{arranged-exchanged}
 use Rattle.layer_nodes.proofs.SiftedLayers.{whole-sifted}
-use Rattle.layer_nodes.proofs.Tried.{arcs-lead}
 use Rattle.layer_candidates.proofs.WayTables.{room-kept, keeps-self}
 use Rattle.layer_nodes.proofs.expanding.expand_nodes.Goals as goal
 
@@ -25,13 +20,6 @@ extend_layer-requires-clause-room g c κs within =
     let most = subst (λ (m : ℕ). count ≤ m) (sym (ap (λ (r : Room). r.most) c.expansion.view_is)) c.requires.room in
     room-kept count e.room e.ways.found.table e.ways.found.table (keeps-self e.ways.found.table) most c.expansion.invariant.table_room
 
-pub arrange_unstruck-requires-clause-targets : goal.arrange_unstruck-requires-clause-targets
-arrange_unstruck-requires-clause-targets g c κs within =
-    let dp = g.M.DpModel.meaning (g.M.DpModel.numbers c.args.model.now) in
-    let e = c.extend_layer in
-    subst (Each (LeadsWithin (length e.new.found.table.ways.items))) (sym c.as_mut_slice-in-AtMost.ensures.value)
-    (arcs-lead dp c.args.descent.k (way_row e.new.region e.new.found.table.ways.items) (length e.new.found.table.ways.items) (trials_of dp c.args.descent.k (held_row c.args.region.now) c.args.above.now) e.new.arcs.items e.ensures.tried.arcs_are)
-
 pub returns-in-AtMost-clause-expanded : goal.returns-in-AtMost-clause-expanded
 returns-in-AtMost-clause-expanded g c =
     let dp = g.M.DpModel.meaning (g.M.DpModel.numbers c.args.model.now) in
@@ -40,26 +28,15 @@ returns-in-AtMost-clause-expanded g c =
     let e = c.extend_layer in
     let f = c.arrange_unstruck in
     let t = c.in-AtMost.threshold in
-    let arranged = subst (λ (l : List DdArc). AreSifted dp (k + 1) t e.new.region e.new.found.table.ways.items e.new.found.marks.items l f.new.arcs f.new.nodes.items) c.as_mut_slice-in-AtMost.ensures.value f.ensures.arranged in
-    let size : length f.new.arcs ≡ e.new.arcs.len = search rules in
-    let led = with_items_is e.new.arcs f.new.arcs size in
-    subst (λ s. IsExpanded (expanded_by s dp k) dp k (held_row a.region.now) a.above.now e.new.nodes (with_items e.new.arcs f.new.arcs).items (held_row f.new.region) f.new.nodes.items) (sym c.in-AtMost.is)
-    (subst (λ l. IsExpanded (expand_sifted dp k t) dp k (held_row a.region.now) a.above.now e.new.nodes l (held_row f.new.region) f.new.nodes.items) (sym led)
-    (whole-sifted dp k t c.requires.layer a.region.now a.above.now e.new.region f.new.region e.new.found.table.ways.items e.new.found.marks.items e.new.arcs.items f.new.arcs e.new.nodes f.new.nodes.items
-    e.ensures.distinct e.ensures.list e.ensures.tried e.ensures.nodes e.ensures.few e.ensures.arcs_few arranged f.ensures.left))
+    subst (λ s. IsExpanded (expanded_by s dp k) dp k (held_row a.region.now) a.above.now e.new.nodes (routed_arcs f.new.routes.items e.new.arcs.items) (held_row f.new.region) f.new.nodes.items) (sym c.in-AtMost.is)
+    (whole-sifted dp k t c.requires.layer a.region.now a.above.now e.new.region f.new.region e.new.found.table.ways.items e.new.found.marks.items e.new.arcs.items f.new.routes.items e.new.nodes f.new.nodes.items
+    e.ensures.distinct e.ensures.list e.ensures.tried e.ensures.nodes e.ensures.few e.ensures.arcs_few f.ensures.arranged f.ensures.left)
 
 pub returns-in-AtMost-clause-exchanged : goal.returns-in-AtMost-clause-exchanged
 returns-in-AtMost-clause-exchanged g c =
     let e = c.extend_layer in
     let f = c.arrange_unstruck in
     exchange-then c.args.region.now e.new.region f.new.region [] (rows_of e.new.found.table.ways.items) (rows_in f.new.nodes.items) e.ensures.exchanged f.ensures.left.exchanged
-
-pub arrange-requires-clause-targets : goal.arrange-requires-clause-targets
-arrange-requires-clause-targets g c =
-    let dp = g.M.DpModel.meaning (g.M.DpModel.numbers c.args.model.now) in
-    let e = c.extend_layer in
-    subst (Each (LeadsWithin (length e.new.found.table.ways.items))) (sym c.as_mut_slice-in-Nothing.ensures.value)
-    (arcs-lead dp c.args.descent.k (way_row e.new.region e.new.found.table.ways.items) (length e.new.found.table.ways.items) (trials_of dp c.args.descent.k (held_row c.args.region.now) c.args.above.now) e.new.arcs.items e.ensures.tried.arcs_are)
 
 pub returns-in-Nothing-clause-expanded : goal.returns-in-Nothing-clause-expanded
 returns-in-Nothing-clause-expanded g c =
@@ -68,15 +45,11 @@ returns-in-Nothing-clause-expanded g c =
     let k = a.descent.k in
     let e = c.extend_layer in
     let f = c.arrange in
-    let arranged = subst (λ (l : List DdArc). AreArranged (held_row e.new.region) e.new.found.table.ways.items e.new.found.marks.items l f.new.arcs f.new.nodes.items) c.as_mut_slice-in-Nothing.ensures.value f.ensures.arranged in
-    let size : length f.new.arcs ≡ e.new.arcs.len = search rules in
-    let led = with_items_is e.new.arcs f.new.arcs size in
-    subst (λ s. IsExpanded (expanded_by s dp k) dp k (held_row a.region.now) a.above.now e.new.nodes (with_items e.new.arcs f.new.arcs).items (held_row e.new.region) f.new.nodes.items) (sym c.in-Nothing.is)
-    (subst (λ l. IsExpanded (expand dp k) dp k (held_row a.region.now) a.above.now e.new.nodes l (held_row e.new.region) f.new.nodes.items) (sym led)
-    (whole dp k c.requires.layer a.region.now a.above.now e.new.region e.new.found.table.ways.items e.new.found.marks.items e.new.arcs.items f.new.arcs e.new.nodes f.new.nodes.items
-    e.ensures.distinct e.ensures.list e.ensures.tried e.ensures.nodes e.ensures.few e.ensures.arcs_few arranged))
+    subst (λ s. IsExpanded (expanded_by s dp k) dp k (held_row a.region.now) a.above.now e.new.nodes (routed_arcs f.new.routes.items e.new.arcs.items) (held_row e.new.region) f.new.nodes.items) (sym c.in-Nothing.is)
+    (whole dp k c.requires.layer a.region.now a.above.now e.new.region e.new.found.table.ways.items e.new.found.marks.items e.new.arcs.items f.new.routes.items e.new.nodes f.new.nodes.items
+    e.ensures.distinct e.ensures.list e.ensures.tried e.ensures.nodes e.ensures.few e.ensures.arcs_few f.ensures.arranged)
 
 pub returns-in-Nothing-clause-exchanged : goal.returns-in-Nothing-clause-exchanged
 returns-in-Nothing-clause-exchanged g c =
     let e = c.extend_layer in
-    arranged-exchanged c.args.region.now e.new.region [] e.new.found.table.ways.items _ _ _ c.arrange.new.nodes.items c.arrange.ensures.arranged e.ensures.exchanged
+    arranged-exchanged c.args.region.now e.new.region [] e.new.found.table.ways.items _ _ c.arrange.new.nodes.items c.arrange.ensures.arranged e.ensures.exchanged

@@ -11,6 +11,7 @@ use Rattle.layer_candidates.proofs.WayTables.{room-kept, keeps-then}
 use Rattle.layer_candidates.proofs.HeldRows.{exchange-put, exchange-give, exchange-then, given-same, ways-same}
 use Rattle.layer_candidates.proofs.Joined.{apart-same, good-same, reached-same}
 use Rattle.layer_nodes.specs.Expanding.{members_from, node_in, trials_at, trials_by, trials_of, AreTried}
+use Rattle.layer_nodes.specs.Routing.{to_way, to_ways}
 use Rattle.layer_nodes.proofs.Spans.{length-members, next-member, row-stays, extended-next, tried-next, spanned-next}
 use Rattle.layer_nodes.proofs.Tried.{length-arcs, tried-stay}
 use Rattle.layer_nodes.proofs.extending.extend_layer.Goals as goal
@@ -36,8 +37,8 @@ nodes-init g c =
           (members-start dp a.k a.region.now live (members_from 0 a.nodes.now) (way_row new []) t.hashes.items t.next.items (length t.heads.items) empty.power));
       exchanged = subst (λ l. HasExchanged a.region.now [] new (c.take_row-spot.result.place ∷ rows_of l)) (sym empty.ways)
           (exchange-put a.region.now new c.take_row-spot.result.place put.0 put.2 put.1 [] (record { live = tt; apart = tt }));
-      tried = subst (λ l. AreTried dp a.k (way_row new l) (length l) [] a.found.now.marks.items arcs) (sym empty.ways)
-          (subst (AreTried dp a.k (way_row new []) 0 [] a.found.now.marks.items) (sym none) (record { arcs_are = tt; marks_are = λ i less. absurd (omega arith) }));
+      tried = subst (λ l. AreTried dp a.k (way_row new l) (length l) [] a.found.now.marks.items (to_ways arcs)) (sym empty.ways)
+          (subst (λ l. AreTried dp a.k (way_row new []) 0 [] a.found.now.marks.items (to_ways l)) (sym none) (record { arcs_are = tt; marks_are = λ i less. absurd (omega arith) }));
       spans = refl;
       live = c.clear.ensures.live;
       room = c.clear.ensures.room;
@@ -158,9 +159,11 @@ span-requires-clause-order g c =
     let ts = trials_of dp a.k (held_row a.region.now) (take l.i a.nodes.now) in
     let us = trials_by dp a.k c.copy_row.new.cells node.exact (below (dp.choices a.k)) in
     let tried = e.ensures.tried ts l.invariant.tried in
-    let before = length-arcs dp a.k row (length l.found.table.ways.items) ts l.arcs.items l.invariant.tried.arcs_are in
-    let after = length-arcs dp a.k row2 (length e.new.found.table.ways.items) (ts ++ us) e.new.arcs.items tried.arcs_are in
+    let before = length-arcs dp a.k row (length l.found.table.ways.items) ts (to_ways l.arcs.items) l.invariant.tried.arcs_are in
+    let after = length-arcs dp a.k row2 (length e.new.found.table.ways.items) (ts ++ us) (to_ways e.new.arcs.items) tried.arcs_are in
     let sum = length-append ts us in
+    let old = length-map l.arcs.items to_way in
+    let new = length-map e.new.arcs.items to_way in
     let first : c.len-first.result ≡ length l.arcs.items = search rules in
     let end : c.len.result ≡ length e.new.arcs.items = search rules in
     omega arith
@@ -189,9 +192,11 @@ nodes-preserved g c =
     let ts = trials_of dp a.k (held_row a.region.now) (take l.i a.nodes.now) in
     let us = trials_by dp a.k c.copy_row.new.cells node.exact (below (dp.choices a.k)) in
     let tried = e.ensures.tried ts l.invariant.tried in
-    let before = length-arcs dp a.k row (length l.found.table.ways.items) ts l.arcs.items l.invariant.tried.arcs_are in
-    let after = length-arcs dp a.k row2 (length e.new.found.table.ways.items) (ts ++ us) e.new.arcs.items tried.arcs_are in
+    let before = length-arcs dp a.k row (length l.found.table.ways.items) ts (to_ways l.arcs.items) l.invariant.tried.arcs_are in
+    let after = length-arcs dp a.k row2 (length e.new.found.table.ways.items) (ts ++ us) (to_ways e.new.arcs.items) tried.arcs_are in
     let sum = length-append ts us in
+    let old = length-map l.arcs.items to_way in
+    let new = length-map e.new.arcs.items to_way in
     let first : c.len-first.result ≡ length l.arcs.items = search rules in
     let end : c.len.result ≡ length e.new.arcs.items = search rules in
     let mine : length us ≡ length (trials_at dp a.k (held_row a.region.now) node) = ap (λ r. length (trials_by dp a.k r node.exact (below (dp.choices a.k)))) copied in
@@ -204,8 +209,8 @@ nodes-preserved g c =
       extended = extended-next dp a.k a.region.now a.nodes.now l.nodes l.i c.nodes-test.true l.invariant.spans c.first_live-live.result c.copy_row.new.cells row row2 l.found.table.ways.items e.new.found.table.ways.items l.found.table.hashes.items l.found.table.heads.items l.found.table.next.items e.new.found.table.hashes.items e.new.found.table.heads.items e.new.found.table.next.items
           l.invariant.extended copied made;
       exchanged = exchange-then a.region.now l.region e.new.region [] (l.spot.place ∷ rows_of l.found.table.ways.items) (e.new.spot.place ∷ rows_of e.new.found.table.ways.items) l.invariant.exchanged e.ensures.exchanged;
-      tried = tried-next dp a.k (held_row a.region.now) a.nodes.now l.nodes l.i c.nodes-test.true l.invariant.spans c.copy_row.new.cells row2 (length e.new.found.table.ways.items) e.new.found.marks.items e.new.arcs.items copied tried;
-      spans = spanned-next dp a.k (held_row a.region.now) a.nodes.now l.nodes l.i c.nodes-test.true l.invariant.spans _ c.len-first.result (length us) c.span.new.node (first ∙ before) mine is refl;
+      tried = tried-next dp a.k (held_row a.region.now) a.nodes.now l.nodes l.i c.nodes-test.true l.invariant.spans c.copy_row.new.cells row2 (length e.new.found.table.ways.items) e.new.found.marks.items (to_ways e.new.arcs.items) copied tried;
+      spans = spanned-next dp a.k (held_row a.region.now) a.nodes.now l.nodes l.i c.nodes-test.true l.invariant.spans _ c.len-first.result (length us) c.span.new.node (first ∙ (sym old ∙ before)) mine is refl;
       live = e.ensures.live ∙ l.invariant.live;
       room = keeps-then a.found.now.table l.found.table e.new.found.table l.invariant.room e.ensures.room;
       marks = e.ensures.marks ∙ l.invariant.marks;
@@ -257,8 +262,8 @@ returns-clause-tried g c =
     let stay = ways-same l.region c.give.new.self l.found.table.ways.items (given-same l.region c.give.new.self l.spot.place c.give.ensures (rows_of l.found.table.ways.items) live.apart.0 live.live.1) live.live.1 in
     let test = c.nodes-test.false in
     let all : take l.i a.nodes.now ≡ a.nodes.now = take_all l.i a.nodes.now (omega arith) in
-    subst (λ nodes. AreTried dp a.k row2 (length l.found.table.ways.items) (trials_of dp a.k (held_row a.region.now) nodes) l.found.marks.items l.arcs.items) all
-    (tried-stay dp a.k row row2 (length l.found.table.ways.items) (trials_of dp a.k (held_row a.region.now) (take l.i a.nodes.now)) l.found.marks.items l.arcs.items stay l.invariant.tried)
+    subst (λ nodes. AreTried dp a.k row2 (length l.found.table.ways.items) (trials_of dp a.k (held_row a.region.now) nodes) l.found.marks.items (to_ways l.arcs.items)) all
+    (tried-stay dp a.k row row2 (length l.found.table.ways.items) (trials_of dp a.k (held_row a.region.now) (take l.i a.nodes.now)) l.found.marks.items (to_ways l.arcs.items) stay l.invariant.tried)
 
 pub returns-clause-room : goal.returns-clause-room
 returns-clause-room g c = c.nodes.invariant.room

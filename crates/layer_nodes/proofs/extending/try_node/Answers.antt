@@ -6,6 +6,7 @@ use Rattle.layer_candidates.specs.Ways.{way_row, IsNear, AllHaveZeros, AreJoined
 use Rattle.layer_candidates.proofs.Extended.{allowed-skipped, extending-first, extending-more, extending-spare, extending-few, extending-all}
 use Rattle.layer_candidates.proofs.WayTables.{room-kept, keeps-self, keeps-then, took-in-as}
 use Rattle.layer_nodes.specs.Expanding.{trial, trials_by, AreTried}
+use Rattle.layer_nodes.specs.Routing.{to_ways}
 use Rattle.layer_nodes.proofs.Tried.{trials-next}
 use Rattle.layer_nodes.proofs.extending.try_node.Goals as goal
 
@@ -94,7 +95,7 @@ decisions-init g c =
     let choices = c.choices-choices.ensures in
     record {
       extending = extending-first dp a.k a.node.member.step a.node.state.now a.node.member.value a.found.now.table.live a.region.now a.spot.now.place a.found.now.table.ways.items first.result a.found.now.table.hashes.items a.found.now.table.heads.items a.found.now.table.next.items first.ensures.on first.ensures.skipped c.requires.held c.requires.joined;
-      tried = λ ts was. subst (λ us. AreTried dp a.k row (length a.found.now.table.ways.items) us a.found.now.marks.items a.arcs.now.items)
+      tried = λ ts was. subst (λ us. AreTried dp a.k row (length a.found.now.table.ways.items) us a.found.now.marks.items (to_ways a.arcs.now.items))
           (sym (append-nil ts) ∙ ap (λ ds. ts ++ map (trial a.node.state.now a.node.exact) ds) (sym (allowed-skipped dp a.k a.node.state.now 0 first.result first.ensures.on first.ensures.skipped))) was;
       within = omega arith;
       live = refl;
@@ -123,11 +124,11 @@ decisions-preserved g c =
       extending = extending-more dp a.k a.node.member.step a.node.state.now a.node.member.value a.found.now.table.live a.region.now a.spot.now.place a.found.now.table.ways.items l.decision l.region l.spot.place l.found.table.ways.items l.found.table.hashes.items l.found.table.heads.items l.found.table.next.items l.invariant.extending
           after.result e.new.region e.new.spot.place e.new.found.table.ways.items e.new.found.table.hashes.items e.new.found.table.heads.items e.new.found.table.next.items after.ensures.on after.ensures.skipped
           (took-in-as dp a.k p.step a.node.member.step p.state.now a.node.state.now p.value a.node.member.value (n ∷ []) l.region l.found.table e.new.region e.new.found.table a.found.now.table.live h.step h.state h.value inv.live e.ensures.extended) e.ensures.exchanged;
-      tried = λ ts was. subst (λ us. AreTried dp a.k row3 (length e.new.found.table.ways.items) us e.new.found.marks.items e.new.arcs.items)
+      tried = λ ts was. subst (λ us. AreTried dp a.k row3 (length e.new.found.table.ways.items) us e.new.found.marks.items (to_ways e.new.arcs.items))
           (append_assoc ts (trials_by dp a.k a.node.state.now a.node.exact (below n)) (trials_by dp a.k a.node.state.now a.node.exact (n ∷ []))
           ∙ (ap (λ us. ts ++ us) (sym (trials-next dp a.k a.node.state.now a.node.exact n))
           ∙ ap (λ ds. ts ++ map (trial a.node.state.now a.node.exact) ds) (sym (allowed-skipped dp a.k a.node.state.now (n + 1) after.result after.ensures.on after.ensures.skipped))))
-          (subst (λ r. AreTried dp a.k row3 (length e.new.found.table.ways.items) ((ts ++ trials_by dp a.k a.node.state.now a.node.exact (below n)) ++ trials_by dp a.k r a.node.exact (n ∷ [])) e.new.found.marks.items e.new.arcs.items) h.state
+          (subst (λ r. AreTried dp a.k row3 (length e.new.found.table.ways.items) ((ts ++ trials_by dp a.k a.node.state.now a.node.exact (below n)) ++ trials_by dp a.k r a.node.exact (n ∷ [])) e.new.found.marks.items (to_ways e.new.arcs.items)) h.state
           (e.ensures.tried (ts ++ trials_by dp a.k a.node.state.now a.node.exact (below n)) (inv.tried ts was)));
       within = omega arith;
       live = e.ensures.live ∙ inv.live;
@@ -157,7 +158,7 @@ returns-clause-tried g c ts was =
     let within = l.invariant.within in
     let choices = c.choices-choices.ensures in
     let all : l.decision ≡ dp.choices a.k = omega arith in
-    subst (λ n. AreTried dp a.k (way_row l.region l.found.table.ways.items) (length l.found.table.ways.items) (ts ++ trials_by dp a.k a.node.state.now a.node.exact (below n)) l.found.marks.items l.arcs.items) all (l.invariant.tried ts was)
+    subst (λ n. AreTried dp a.k (way_row l.region l.found.table.ways.items) (length l.found.table.ways.items) (ts ++ trials_by dp a.k a.node.state.now a.node.exact (below n)) l.found.marks.items (to_ways l.arcs.items)) all (l.invariant.tried ts was)
 
 pub returns-clause-live : goal.returns-clause-live
 returns-clause-live g c = c.decisions.invariant.live

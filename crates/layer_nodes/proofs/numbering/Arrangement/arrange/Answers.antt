@@ -1,4 +1,4 @@
-use Rattle.std.proofs.Common.{ℕ, ◌<◌, length, map, refl, sym, ap, subst, ◌∙◌, arith}
+use Rattle.std.proofs.Common.{ℕ, ◌<◌, length, map, sym, ap, subst, ◌∙◌, arith}
 use Rattle.dp_model.specs.Lists.{Each}
 use Rattle.layer_candidates.specs.declared.key.Key.{Key}
 use Rattle.layer_candidates.specs.HeldRows.{held_row}
@@ -7,16 +7,14 @@ use Rattle.layer_nodes.specs.Expanding.{key_in, IsNumbered, node_of}
 use Rattle.layer_nodes.proofs.Expanded.{arranged-by}
 use Rattle.layer_nodes.proofs.numbering.Arrangement.arrange.Goals as goal
 
-pub number-requires-clause-within : goal.number-requires-clause-within
-number-requires-clause-within c =
-    let count = ap length c.as_slice-ways.ensures.value in
-    let size = ap length c.as_mut_slice-places.ensures.value in
-    let room = c.requires.places_room in
-    subst (Each (λ (key : Key). key.place < length c.as_mut_slice-places.result.now)) (sym c.as_slice-keys.ensures.value)
-    (keys-within c.as_slice-ways.result.now c.put_in_order.new.keys.items (length c.as_mut_slice-places.result.now) (omega arith) c.put_in_order.ensures.all)
+pub number_ways-requires-clause-within : goal.number_ways-requires-clause-within
+number_ways-requires-clause-within c =
+    let count = c.as_slice-ways.result.now in
+    subst (Each (λ (key : Key). key.place < length count)) (sym c.as_slice-keys.ensures.value)
+    (keys-within c.as_slice-ways.result.now c.put_in_order.new.keys.items (length count) (omega arith) c.put_in_order.ensures.all)
 
-pub number-requires-clause-small : goal.number-requires-clause-small
-number-requires-clause-small c =
+pub number_ways-requires-clause-small : goal.number_ways-requires-clause-small
+number_ways-requires-clause-small c =
     let count = ap length c.as_slice-ways.ensures.value in
     let size = ap length c.as_slice-keys.ensures.value ∙ length-keys c.as_slice-ways.result.now c.put_in_order.new.keys.items c.put_in_order.ensures.all in
     let small = c.requires.small in
@@ -48,13 +46,12 @@ returns-clause-arranged c =
     let ways = c.as_slice-ways.result.now in
     let marks = c.as_slice-marks.result.now in
     let keys = c.put_in_order.new.keys.items in
-    arranged-by (held_row a.region.now) ways a.self.now.found.table.ways.items marks a.self.now.found.marks.items a.arcs.now a.arcs.now c.lead.new.arcs c.list_nodes.new.nodes.items
+    arranged-by (held_row a.region.now) ways a.self.now.found.table.ways.items marks a.self.now.found.marks.items c.number_ways.new.routes.items c.list_nodes.new.nodes.items
     (record {
       keys = keys;
-      places = c.number.new.places;
       all = c.put_in_order.ensures.all;
       sorted = c.put_in_order.ensures.sorted;
-      numbered = subst (λ ks. (j : ℕ) → j < length ks → IsNumbered (length ks) ks c.number.new.places (key_in ks j).place) c.as_slice-keys.ensures.value c.number.ensures.numbered;
-      arcs_are = c.lead.ensures;
+      numbered = subst (λ ks. (j : ℕ) → j < length ks → IsNumbered (length ks) ks c.number_ways.new.routes.items (key_in ks j).place) c.as_slice-keys.ensures.value c.number_ways.ensures.numbered;
+      plain = c.number_ways.ensures.plain;
       nodes_are = c.list_nodes.ensures.nodes ∙ ap (map (node_of ways marks)) c.as_slice-keys.ensures.value;
-    }) c.as_slice-ways.ensures.value c.as_slice-marks.ensures.value refl
+    }) c.as_slice-ways.ensures.value c.as_slice-marks.ensures.value

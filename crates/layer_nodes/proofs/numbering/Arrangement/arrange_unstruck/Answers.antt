@@ -1,4 +1,4 @@
-use Rattle.std.proofs.Common.{◌≡◌, ◌≢◌, ℕ, ◌<◌, None, List, length, map, refl, sym, ap, subst, ◌∙◌, arith, IsPermutation}
+use Rattle.std.proofs.Common.{◌≡◌, ◌≢◌, ℕ, ◌<◌, None, List, length, map, sym, ap, subst, ◌∙◌, arith, IsPermutation}
 use Rattle.std.proofs.lemmas.List.Sorted.{IsPermutation-map}
 use Rattle.dp_model.specs.Lists.{Each}
 use Rattle.dp_model.proofs.Members.{Each-then}
@@ -35,22 +35,18 @@ sort-requires g c =
           (unstruck-zeros dp a.k a.threshold a.region.now region ways live held.live left (λ i less. c.first_live.ensures.zeros (way_row a.region.now ways i) (distinct.good i less).state));
     }
 
-pub number_some-requires-clause-within : goal.number_some-requires-clause-within
-number_some-requires-clause-within g c =
+pub number_ways-requires-clause-within : goal.number_ways-requires-clause-within
+number_ways-requires-clause-within g c =
     let dp = g.M.DpModel.meaning (g.M.DpModel.numbers c.args.model.now) in
     let a = c.args in
     let ways = c.as_slice-ways.result.now in
-    let places = c.as_mut_slice-places.result.now in
-    let count = ap length c.as_slice-ways.ensures.value in
-    let size-places = ap length c.as_mut_slice-places.ensures.value in
     let keys = c.sort.new.keys.items in
     let all = subst (λ l. IsPermutation l keys) c.list_unstruck.ensures.keys c.sort.ensures.all in
-    let room = c.requires.places_room in
-    subst (Each (λ (key : Key). key.place < length places)) (sym c.as_slice-keys.ensures.value)
-    (Each-then (IsKeyOf ways) (λ (key : Key). key.place < length places) keys (λ key h. (let low = h.within in omega arith)) (unstruck-are dp a.k a.threshold a.region.now ways keys all))
+    subst (Each (λ (key : Key). key.place < length ways)) (sym c.as_slice-keys.ensures.value)
+    (Each-then (IsKeyOf ways) (λ (key : Key). key.place < length ways) keys (λ key h. h.within) (unstruck-are dp a.k a.threshold a.region.now ways keys all))
 
-pub number_some-requires-clause-small : goal.number_some-requires-clause-small
-number_some-requires-clause-small g c =
+pub number_ways-requires-clause-small : goal.number_ways-requires-clause-small
+number_ways-requires-clause-small g c =
     let dp = g.M.DpModel.meaning (g.M.DpModel.numbers c.args.model.now) in
     let a = c.args in
     let ways = c.as_slice-ways.result.now in
@@ -111,18 +107,17 @@ returns-clause-arranged g c =
     let left = left-moved a.region.now region (rows_of ways) (key_rows c.list_unstruck.new.keys.items) (key_rows keys) (IsPermutation-map (λ (key : Key). key.row) c.list_unstruck.new.keys.items keys c.sort.ensures.all) c.list_unstruck.ensures.left in
     let all = subst (λ l. IsPermutation l keys) c.list_unstruck.ensures.keys c.sort.ensures.all in
     let still = rows-same a.region.now region keys left.same (key-places-of (IsLive a.region.now) ways keys (unstruck-are dp a.k a.threshold a.region.now ways keys all) held.live) in
-    sifted-by dp a.k a.threshold a.region.now ways a.self.now.found.table.ways.items marks a.self.now.found.marks.items a.arcs.now a.arcs.now c.lead.new.arcs c.list_nodes.new.nodes.items
+    sifted-by dp a.k a.threshold a.region.now ways a.self.now.found.table.ways.items marks a.self.now.found.marks.items c.number_ways.new.routes.items c.list_nodes.new.nodes.items
     (record {
       keys = keys;
-      places = c.number_some.new.places;
       all = all;
       sorted = sorted-same (held_row region) (held_row a.region.now) keys
           (Each-then (λ (key : Key). held_row region key.row ≡ held_row a.region.now key.row) (λ (key : Key). held_row a.region.now key.row ≡ held_row region key.row) keys (λ key e. sym e) still) c.sort.ensures.sorted;
-      numbered = subst (λ ks. (j : ℕ) → j < length ks → IsNumbered (length ks) ks c.number_some.new.places (key_in ks j).place) c.as_slice-keys.ensures.value c.number_some.ensures.numbered;
-      unnumbered = subst (λ ks. (p : ℕ) → p < length ways → Each (λ (key : Key). key.place ≢ p) ks → number_at c.number_some.new.places p ≡ None) c.as_slice-keys.ensures.value c.number_some.ensures.others;
-      arcs_are = c.lead.ensures;
+      numbered = subst (λ ks. (j : ℕ) → j < length ks → IsNumbered (length ks) ks c.number_ways.new.routes.items (key_in ks j).place) c.as_slice-keys.ensures.value c.number_ways.ensures.numbered;
+      unnumbered = subst (λ ks. (p : ℕ) → Each (λ (key : Key). key.place ≢ p) ks → number_at c.number_ways.new.routes.items p ≡ None) c.as_slice-keys.ensures.value c.number_ways.ensures.others;
+      plain = c.number_ways.ensures.plain;
       nodes_are = c.list_nodes.ensures.nodes ∙ ap (map (node_of ways marks)) c.as_slice-keys.ensures.value;
-    }) c.as_slice-ways.ensures.value c.as_slice-marks.ensures.value refl
+    }) c.as_slice-ways.ensures.value c.as_slice-marks.ensures.value
 
 pub returns-clause-left : goal.returns-clause-left
 returns-clause-left g c =
