@@ -1,4 +1,5 @@
-ghost use Rattle.std.specs.Prelude.{◌≡◌, ◌∷◌, [], ◌+◌, ◌*◌, ◌<◌, ◌≤◌, ◌^◌, length, pos, IsTrue};
+ghost use Rattle.std.specs.Prelude.{◌≡◌, ◌∷◌, [], ◌+◌, ◌*◌, ◌<◌, ◌≤◌, ◌^◌, ℕ, nat_le, cond, length, pos, Some, None, IsTrue};
+ghost use Rattle.dp_model.specs.Gaps.{within};
 ghost use Rattle.knapsack.specs.Program.{left, is_left, item_at, rough_from};
 ghost use Rattle.knapsack.specs.Limits.{IsSmallItem};
 
@@ -14,6 +15,17 @@ fn write(out: &mut [i64], left: u64)
     ensures { out.new ≡ pos left ∷ [] }
 {
     out.copy_from_slice(&[left as i64]);
+}
+
+/// A gap of 0 where that is at most `most` and the one capacity is no less than the other. The ranks are what is left of them.
+fn gap_within(rank_a: i64, rank_s: i64, most: i64) -> Option<i64>
+    ensures { (a s : ℕ) → rank_a ≡ pos a → rank_s ≡ pos s → result ≡ within most (cond (nat_le s a) (Some (pos 0)) None) }
+{
+    if rank_s <= rank_a && most >= 0 {
+        Some(0)
+    } else {
+        None
+    }
 }
 
 impl Knapsack {
@@ -131,6 +143,19 @@ impl DpModel for Knapsack {
         } else {
             None
         }
+    }
+
+    #[inline]
+    fn covers_within(
+        &self,
+        _k: usize,
+        _a: &[i64],
+        rank_a: i64,
+        _s: &[i64],
+        rank_s: i64,
+        most: i64,
+    ) -> Option<i64> {
+        gap_within(rank_a, rank_s, most)
     }
 
     fn rough(&self, k: usize, s: &[i64]) -> Option<i64> {

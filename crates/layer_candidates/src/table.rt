@@ -33,6 +33,12 @@ pub struct WayTable {
     pub(crate) next: Vec<u32>,
 }
 
+/// How many slots a layer has for each way of the one before it, unless it can't have as many ways.
+const SLOTS_PER_WAY: usize = 4;
+
+/// The fewest slots that are asked for, unless a layer can't have as many ways.
+const FEWEST_SLOTS: usize = 64;
+
 /// The slot of a hash, of a number of slots that is a power of two. Hashes may differ in any of their bits, and a product spreads these.
 fn slot(hash: u64, size: usize) -> usize
     requires { IsPowerOfTwo size }
@@ -41,6 +47,12 @@ fn slot(hash: u64, size: usize) -> usize
 {
     let halves = hash ^ (hash >> 32);
     (spread(halves) >> 32) as usize & (size - 1)
+}
+
+/// The number of ways for which a layer gets slots, where the one before it had `before` ways. A table that is no larger than it
+/// has to be stays in the processor's cache. Where a layer has more ways, its chains are longer.
+fn likely_ways(before: usize) -> usize {
+    before.saturating_mul(SLOTS_PER_WAY).max(FEWEST_SLOTS)
 }
 
 /// The number of slots that serves for a number of rows: a power of two, at most `slots`. It is no less than the rows, unless
@@ -71,8 +83,8 @@ impl WayTable {
         })
     }
 
-    /// Takes all ways out, and makes ready for at most `rows` of them, whose rows are to be compared from the cell `live` on.
-    /// It takes no memory.
+    /// Takes all ways out, and makes ready for at most `rows` of them, whose rows are to be compared from the cell `live` on. How
+    /// many slots there are goes by the ways that are taken out, too. It takes no memory.
     pub fn clear(&mut self, live: usize, rows: usize)
         requires slots { HasSlots self.old }
         requires small { rows + 1 < 2 ^ 32 }
@@ -80,10 +92,11 @@ impl WayTable {
         ensures live { self.new.live ≡ live }
         ensures room { KeepsTableRoom self.old self.new }
     {
+        let likely = likely_ways(self.ways.len()).min(rows);
         self.ways.clear();
         self.live = live;
         self.heads.clear();
-        let _ = self.heads.resize(slots_for(rows, self.slots), 0);
+        let _ = self.heads.resize(slots_for(likely, self.slots), 0);
     }
 
     /// Whether the row of the way at the place has these live cells.

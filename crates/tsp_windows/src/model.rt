@@ -1,9 +1,11 @@
 ghost use Rattle.std.specs.Prelude.{◌≡◌, ℕ, ◌+◌, ◌*◌, ◌^◌, ◌<◌, ◌≤◌, ◌≤ℤ◌, ◌↔◌, pos, nat_le, if◌then◌else◌, true, false, Some, None, IsTrue, IsNone, IfSome, is_some, length};
+ghost use Rattle.dp_model.specs.Gaps.{within};
 ghost use Rattle.node_sets.specs.Sets as sets;
 ghost use Rattle.node_sets.specs.Sets.{AreWords};
 ghost use Rattle.node_sets.specs.Sums.{count_below};
 ghost use Rattle.pending_rows.specs.Pending.{is_open};
 ghost use Rattle.tsp_windows.specs.Instance.{closing};
+ghost use Rattle.tsp_windows.specs.Program.{gap_of};
 ghost use Rattle.tsp_windows.specs.States as states;
 ghost use Rattle.tsp_windows.specs.States.{shown, row_for, is_state_row};
 ghost use Rattle.tsp_windows.specs.FromHome.{IsFromHome};
@@ -40,6 +42,43 @@ fn covers(nodes: usize, a: &[i64], s: &[i64]) -> bool
     let wide = positions_of(nodes, a);
     let part = positions_of(nodes, s);
     is_subset(part, wide)
+}
+
+/// By how much earlier the one state is than the other, where it covers it.
+fn gap_between(nodes: usize, a: &[i64], s: &[i64]) -> Option<i64>
+    requires few { nodes ≤ 300 }
+    requires covering { IsTrue (is_state_row nodes a.now) }
+    requires state { IsTrue (is_state_row nodes s.now) }
+    ensures { result ≡ gap_of nodes (shown (sets.words_for nodes) a.now) (shown (sets.words_for nodes) s.now) }
+{
+    if covers(nodes, a, s) {
+        Some(time_of(nodes, s) as i64 - time_of(nodes, a) as i64)
+    } else {
+        None
+    }
+}
+
+/// The same, where that is at most `most`. A state from which more nodes must be visited covers none from which fewer must.
+fn gap_within(
+    nodes: usize,
+    a: &[i64],
+    rank_a: i64,
+    s: &[i64],
+    rank_s: i64,
+    most: i64,
+) -> Option<i64>
+    requires few { nodes ≤ 300 }
+    requires covering { IsTrue (is_state_row nodes a.now) }
+    requires state { IsTrue (is_state_row nodes s.now) }
+    requires covering_rank { rank_a ≡ pos (count_below nodes (shown (sets.words_for nodes) a.now).pending.must) }
+    requires rank { rank_s ≡ pos (count_below nodes (shown (sets.words_for nodes) s.now).pending.must) }
+    ensures { result ≡ within most (gap_of nodes (shown (sets.words_for nodes) a.now) (shown (sets.words_for nodes) s.now)) }
+{
+    if rank_a > rank_s {
+        return None;
+    }
+    let gap = gap_between(nodes, a, s)?;
+    if gap <= most { Some(gap) } else { None }
 }
 
 /// Whether there is a position, and node 0 is in neither of the other two sets.
@@ -363,11 +402,20 @@ impl DpModel for TspWindows {
     }
 
     fn gap(&self, _k: usize, a: &[i64], s: &[i64]) -> Option<i64> {
-        if covers(self.nodes, a, s) {
-            Some(time_of(self.nodes, s) as i64 - time_of(self.nodes, a) as i64)
-        } else {
-            None
-        }
+        gap_between(self.nodes, a, s)
+    }
+
+    #[inline]
+    fn covers_within(
+        &self,
+        _k: usize,
+        a: &[i64],
+        rank_a: i64,
+        s: &[i64],
+        rank_s: i64,
+        most: i64,
+    ) -> Option<i64> {
+        gap_within(self.nodes, a, rank_a, s, rank_s, most)
     }
 
     fn rough(&self, k: usize, s: &[i64]) -> Option<i64> {
