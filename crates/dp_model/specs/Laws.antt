@@ -49,3 +49,9 @@ pub record IsLawful (dp : Dp) : Type 0 where
 abbrev pub IsChained : Dp → Type 0
 IsChained dp = (k : ℕ) (a b c : List ℤ) (g h : ℤ) → IsStateOf dp k a → IsStateOf dp k b → IsStateOf dp k c
     → dp.gap k a b ≡ Some g → dp.gap k b c ≡ Some h → HasGapWithin dp k a c (g +ℤ h)
+
+-- states of a layer may be merged in any order: two may change places, and of three any two may be merged first
+pub record MergesInAnyOrder (dp : Dp) : Type 0 where
+  pub swapped : (k : ℕ) (a b : List ℤ) → IsStateOf dp k a → IsStateOf dp k b → dp.merged k a b ≡ dp.merged k b a
+  pub regrouped : (k : ℕ) (a b c : List ℤ) → IsStateOf dp k a → IsStateOf dp k b → IsStateOf dp k c
+      → dp.merged k (dp.merged k a b) c ≡ dp.merged k a (dp.merged k b c)

@@ -1,6 +1,6 @@
 ghost use Rattle.std.specs.Prelude.{◌≡◌, ℕ, ◌+◌, ◌<◌, ◌≤◌, ℤ, pos, List, length, replicate, take, false, is_some, IsNone, IsSome, IfSome, IsTrue};
 ghost use Rattle.dp_model.specs.Dp.{Dp, IsAllowed};
-ghost use Rattle.dp_model.specs.Laws.{IsLawful, IsChained};
+ghost use Rattle.dp_model.specs.Laws.{IsLawful, IsChained, MergesInAnyOrder};
 ghost use Rattle.dp_model.specs.Gaps.{IsStateOf, within};
 
 /// What `DpModel::extend` answers for an allowed decision.
@@ -28,8 +28,8 @@ pub struct Extended {
 /// 6. `vars`, `words` and `choices` are at most 1,024; cells, gains, gaps, rough bounds and the root value are at most 2^50 in
 ///    size.
 ///
-/// `covers_within`, `extend`, `next_hash`, `rough_by_rank`, `first_live` and `next_choice` are there for speed. Each has a body that uses
-/// the other calls. A problem replaces this body if a shorter way is known.
+/// `covers_within`, `extend`, `next_hash`, `rough_by_rank`, `first_live`, `next_choice` and `merges_in_any_order` are there for speed. Each
+/// has a body that uses the other calls, or none. A problem replaces this body if a shorter way is known.
 pub trait DpModel: Send + Sync + Drop {
     /// The numbers that describe the instance.
     ghost numbers: { Self → List ℤ };
@@ -220,6 +220,14 @@ pub trait DpModel: Send + Sync + Drop {
         ensures skipped { (d : ℕ) → from ≤ d → d < result → (meaning (numbers self.now)).allowed k s.now d ≡ false }
     {
         from
+    }
+
+    /// Whether the order in which states of a layer are merged makes no difference. Then a layer that is reduced by merging puts
+    /// only the nodes in order that stay. `false` is always right.
+    fn merges_in_any_order(&self) -> bool
+        ensures { IsTrue result → MergesInAnyOrder (meaning (numbers self.now)) }
+    {
+        false
     }
 
     /// The program of every instance meets the six laws.
