@@ -6,6 +6,7 @@ pub mod Layers
 pub mod Expanded
 pub mod Pruned
 pub mod Merged
+pub mod AnyOrder
 pub mod Built
 pub mod Compiled
 pub mod Unreduced
