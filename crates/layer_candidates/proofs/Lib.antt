@@ -12,3 +12,4 @@ pub mod Layered
 pub mod Built
 pub mod Walked
 pub mod Started
+pub mod Selected

@@ -6,6 +6,7 @@ pub mod Members
 pub mod Extending
 pub mod WayTables
 pub mod KeyOrder
+pub mod Selecting
 pub mod Pruning
 pub mod Steps
 pub mod Layering

@@ -43,7 +43,7 @@ pub use holding::{HasRow, give_rows, put_row, take_row};
 pub use key::Key;
 pub use limits::Limits;
 pub use member::Member;
-pub use ordering::{put_in_order, sort};
+pub use ordering::{put_in_order, sort, sort_first};
 pub use parent::Parent;
 pub use rows::row_of;
 pub use start::Start;
