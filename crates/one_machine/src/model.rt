@@ -89,6 +89,11 @@ impl DpModel for OneMachine {
         write_joined(acc, self.jobs.len(), s);
     }
 
+    #[tactic(auto, using(crate::proofs::Merging::any_order_numbers))]
+    fn merges_in_any_order(&self) -> bool {
+        true
+    }
+
     fn gap(&self, _k: usize, a: &[i64], s: &[i64]) -> Option<i64> {
         gap_between(self.jobs.len(), a, s)
     }
