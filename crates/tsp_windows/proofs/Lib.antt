@@ -10,3 +10,4 @@ pub mod TextLengths
 pub mod DrawnDistances
 pub mod Windows
 pub mod Late
+pub mod Merging

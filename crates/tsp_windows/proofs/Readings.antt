@@ -15,7 +15,7 @@ use Rattle.tokens.specs.Text.{TextState, number_at, place_of, after_token}
 use Rattle.tokens.specs.declared.text_error.TextError.{TextError}
 use Rattle.tokens.specs.declared.place.Place.{Place}
 use Rattle.tokens.specs.declared.instance_error.InstanceError.{InstanceError}
-use Rattle.tokens.specs.Chain.{until, never, times}
+use Rattle.tokens.specs.Chain.{until, times}
 use Rattle.tokens.specs.Grammar.{read_then, number_then, part_then}
 use Rattle.tokens.proofs.Ranges.{number_at_range}
 use Rattle.tsp_windows.specs.Instance.{Window, is_window, is_small}

@@ -401,6 +401,11 @@ impl DpModel for TspWindows {
         write_joined(acc, few(self.nodes), s);
     }
 
+    #[tactic(auto, using(crate::proofs::Merging::any_order_numbers))]
+    fn merges_in_any_order(&self) -> bool {
+        true
+    }
+
     fn gap(&self, _k: usize, a: &[i64], s: &[i64]) -> Option<i64> {
         gap_between(self.nodes, a, s)
     }
