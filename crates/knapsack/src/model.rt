@@ -177,4 +177,8 @@ impl DpModel for Knapsack {
     fn is_state(&self, _k: usize, s: &[i64]) -> bool {
         self.may_be_left(s)
     }
+
+    fn merges_in_any_order(&self) -> bool {
+        true
+    }
 }
