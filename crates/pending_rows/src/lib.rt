@@ -5,7 +5,7 @@
 //! A row for the numbers below `n` has two sets of `words_for(n)` cells and one cell for the time, from 0 to 10^12. The crate
 //! stands on `node_sets`. No call takes memory. Each gives exactly what its definition says, but for `next_open`: its contract
 //! says only that no number before the answer is open. `proofs/Covering` has what follows for the problems above: covering is a chain, a merged row covers both, and a step keeps
-//! it. `proofs/OrderLaws` says which lists are orders.
+//! it. `proofs/Joining` says that states may be merged in any order, `proofs/OrderLaws` which lists are orders.
 //!
 //! ```
 //! // Whether every way to go on from `s` is one from `a`, and no later there, for rows of 5 numbers.
