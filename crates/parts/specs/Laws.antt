@@ -1,16 +1,16 @@
 -- A part of a lawful problem is lawful, and chained where the problem is.
-use Rattle.std.proofs.Common.{◌≡◌, ℕ, zero, suc, ◌+◌, ◌*◌, ◌%◌, ◌^◌, ◌<◌, ◌≤◌, ℤ, pos, ◌+ℤ◌, ◌≤ℤ◌, Bool, true, false, ◌&&◌, nat_eq, cond, List, [], ◌∷◌, length, Option, Some, None, IsTrue, refl, sym, ap, subst, ◌∙◌, arith}
+use Rattle.std.proofs.Common.{◌≡◌, ℕ, zero, suc, ◌+◌, ◌%◌, ◌≤◌, ℤ, pos, ◌+ℤ◌, ◌≤ℤ◌, Bool, true, false, nat_eq, cond, List, [], ◌∷◌, Some, None, IsTrue, refl, sym, ap, subst, ◌∙◌, arith}
 use Rattle.std.proofs.lemmas.Bool.{and_parts}
 use Rattle.std.proofs.lemmas.Int.{ints}
 use Rattle.dp_model.specs.Dp.{Dp, IsAllowed}
-use Rattle.dp_model.specs.Gaps.{IsStateOf, Matches, IsSoundGap, HasGap, HasGapWithin}
-use Rattle.dp_model.specs.Laws.{StepsAreStates, GapsAreSound, RoughBounds, SizesHold, IsLawful, IsChained}
+use Rattle.dp_model.specs.Gaps.{IsStateOf, Matches, IsSoundGap, HasGap}
+use Rattle.dp_model.specs.Laws.{StepsAreStates, GapsAreSound, RoughBounds, SizesHold, IsLawful, IsChained, MergesInAnyOrder}
 use Rattle.dp_model.specs.Numbers.{AtMost, IsSmall}
 use Rattle.dp_model.specs.Prefixes.{IsPath, gain_of, IsContinuation}
 use Rattle.dp_model.specs.Rows.{row_same}
 use Rattle.dp_model.proofs.RowLemmas.{row_same-self, row_same-is}
 use Rattle.dp_laws.proofs.Diagrams.Places.{same-Some}
-use Rattle.parts.specs.Part.{state_in_part, allowed_in_part, gap_in_part, part_program}
+use Rattle.parts.specs.Part.{state_in_part, allowed_in_part, merged_in_part, gap_in_part, part_program}
 
 -- what stands where a row covers itself alone
 cond_some : (b : Bool) (g : ℤ) → cond b (Some (pos 0)) None ≡ Some g → (b ≡ true) × (g ≡ pos 0)
@@ -172,3 +172,17 @@ state_test dp (suc k) s root h = h
 
 pub whole_state : (dp : Dp) (index of k : ℕ) (s : List ℤ) → IsTrue (dp.is_state 0 dp.root) → IsStateOf (part_program dp index of) k s → IsStateOf dp k s
 whole_state dp index of k s root h = record { layer = h.layer; test = state_test dp k s root h.test }
+
+-- states of a part may be merged in any order where those of the whole may
+pub any_order_part : (dp : Dp) (index of : ℕ) → IsTrue (dp.is_state 0 dp.root) → MergesInAnyOrder dp → MergesInAnyOrder (part_program dp index of)
+any_order_part dp index of root any = record { swapped = swapped; regrouped = regrouped }
+  where
+    swapped : (k : ℕ) (a b : List ℤ) → IsStateOf (part_program dp index of) k a → IsStateOf (part_program dp index of) k b → merged_in_part dp k a b ≡ merged_in_part dp k b a
+    swapped zero a b at_a at_b = row_same-is a dp.root at_a.test ∙ sym (row_same-is b dp.root at_b.test)
+    swapped (suc k) a b at_a at_b = any.swapped (suc k) a b (whole_state dp index of (suc k) a root at_a) (whole_state dp index of (suc k) b root at_b)
+
+    regrouped : (k : ℕ) (a b c : List ℤ) → IsStateOf (part_program dp index of) k a → IsStateOf (part_program dp index of) k b → IsStateOf (part_program dp index of) k c
+        → merged_in_part dp k (merged_in_part dp k a b) c ≡ merged_in_part dp k a (merged_in_part dp k b c)
+    regrouped zero a b c at_a at_b at_c = refl
+    regrouped (suc k) a b c at_a at_b at_c =
+        any.regrouped (suc k) a b c (whole_state dp index of (suc k) a root at_a) (whole_state dp index of (suc k) b root at_b) (whole_state dp index of (suc k) c root at_c)

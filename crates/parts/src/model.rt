@@ -57,6 +57,10 @@ impl<M: DpModel> DpModel for Part<M> {
         }
     }
 
+    fn merges_in_any_order(&self) -> bool {
+        self.model.merges_in_any_order()
+    }
+
     fn gap(&self, k: usize, a: &[i64], s: &[i64]) -> Option<i64> {
         if k > 0 {
             return self.model.gap(k, a, s);
