@@ -110,4 +110,9 @@ impl<P: PairProblem> DpModel for PairModel<P> {
     fn is_state(&self, k: usize, s: &[i64]) -> bool {
         self.rows.is_state(k, s)
     }
+
+    #[tactic(auto, using(pair_rows::specs::Laws::AnyOrder::any_order))]
+    fn merges_in_any_order(&self) -> bool {
+        true
+    }
 }

@@ -7,4 +7,5 @@ pub mod Totals
 pub mod Sizes
 pub mod Split
 pub mod Gaps
+pub mod AnyOrder
 pub mod Solutions
