@@ -21,3 +21,6 @@ pub mod MergedLayers
 pub mod Ended
 pub mod Following
 pub mod Holding
+pub mod InOrder
+pub mod MergedKeys
+pub mod Listed

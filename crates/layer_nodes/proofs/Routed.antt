@@ -26,7 +26,7 @@ nowhere-at zero p = refl
 nowhere-at (suc n) zero = refl
 nowhere-at (suc n) (suc p) = nowhere-at n p
 
-plain-at : (routes : List Route) (p : ℕ) → Each IsPlain routes → IsPlain (route_at routes p)
+pub plain-at : (routes : List Route) (p : ℕ) → Each IsPlain routes → IsPlain (route_at routes p)
 plain-at [] p h = refl
 plain-at (r ∷ routes) zero h = h.0
 plain-at (r ∷ routes) (suc p) h = plain-at routes p h.1

@@ -1,13 +1,14 @@
 -- A layer that was expanded in memory without its struck nodes is that of the rules, whatever the paths are.
-use Rattle.std.proofs.Common.{◌≡◌, ◌≢◌, ℕ, zero, suc, ◌+◌, ◌*◌, ◌<◌, ◌≤◌, ℤ, pos, ◌+ℤ◌, Bool, true, false, not, cond, List, [], ◌∷◌, length, map, slice_get, Option, Some, None, IsSome, option_and_then, inl, inr, refl, sym, ◌∙◌, ap, ap₂, subst, arith}
+use Rattle.std.proofs.Common.{◌≡◌, ◌≢◌, ℕ, zero, suc, ◌+◌, ◌*◌, ◌<◌, ◌≤◌, ℤ, pos, ◌+ℤ◌, Bool, true, false, not, cond, List, [], ◌∷◌, length, map, slice_get, Option, Some, None, IsPermutation, IsSome, option_and_then, inl, inr, refl, sym, ◌∙◌, ap, ap₂, subst, arith}
 use Rattle.std.proofs.lemmas.Int.{ints}
 use Rattle.std.proofs.lemmas.List.{length-map}
+use Rattle.std.proofs.lemmas.List.Sorted.{IsPermutation-map}
 use Rattle.std.proofs.lemmas.Option.{slice_get-map, slice_get-get_or}
 use Rattle.dp_model.specs.Dp.{Dp}
 use Rattle.dp_model.specs.Gaps.{is_struck_by}
 use Rattle.dp_model.specs.Lists.{Each}
 use Rattle.dp_model.specs.Reached.{Reached}
-use Rattle.dp_model.proofs.Members.{Has, each-has, each-of-all, Has-map, Has-filter, Has-filter-from}
+use Rattle.dp_model.proofs.Members.{Has, each-has, each-of-all, Has-map, Has-filter, Has-filter-from, Each-then}
 use Rattle.dp_laws.specs.declared.arc.DdArc.{DdArc}
 use Rattle.dp_laws.specs.Diagrams.Nodes.{DdNode, prefix_at}
 use Rattle.dp_laws.specs.Diagrams.Seen.{decisions_at}
@@ -25,13 +26,14 @@ use Rattle.dp_laws.proofs.Restricted.Permutations.{each-at, each-permutation, Ha
 use Rattle.dp_laws.proofs.Rules.Expanded.{RowsApart, one-place, new-apart}
 use Rattle.layer_candidates.specs.declared.key.Key.{Key}
 use Rattle.layer_candidates.specs.declared.way.Way.{Way}
-use Rattle.layer_candidates.specs.KeyOrder.{key_at, keys_of, all_of, IsKeyOf}
+use Rattle.layer_candidates.specs.KeyOrder.{key_at, keys_of, key_rows, all_of, IsKeyOf}
 use Rattle.layer_candidates.specs.Members.{members_as}
 use Rattle.layer_candidates.specs.Pruning.{struck, unstruck_keys}
-use Rattle.layer_candidates.specs.HeldRows.{held_row, AreSame, HasLeft}
+use Rattle.layer_candidates.specs.HeldRows.{held_row, AreLive, AreSame, HasLeft}
 use Rattle.layer_candidates.specs.Ways.{rows_of, way_row, reached_at, all_reached, AreDistinct}
-use Rattle.layer_candidates.proofs.Layered.{has-table}
-use Rattle.layer_candidates.proofs.Sorted.{unstruck-are, unstruck-in-order, unstruck-length}
+use Rattle.layer_candidates.proofs.HeldRows.{left-moved}
+use Rattle.layer_candidates.proofs.Layered.{has-table, rows-same}
+use Rattle.layer_candidates.proofs.Sorted.{key-places-of, sorted-same, unstruck-are, unstruck-in-order, unstruck-length}
 use Rattle.layer_nodes.specs.declared.node.Node.{Node}
 use Rattle.layer_nodes.specs.declared.routing.Route.{Route}
 use Rattle.layer_nodes.specs.declared.routing.StoredArc.{StoredArc}
@@ -41,7 +43,7 @@ use Rattle.layer_nodes.specs.Routing.{routed, routed_arcs, to_way, to_ways}
 use Rattle.layer_nodes.specs.Stored.{node_view_by, rows_in, HasArcsIn}
 use Rattle.layer_nodes.specs.Steps.{IsRanked}
 use Rattle.layer_nodes.specs.Expanding.{trial, trials_of, all_spanned, arc_to, LeadsToRow, AreTried, key_in, number_at, IsNumbered, node_of, members_from, IsExpanded}
-use Rattle.layer_nodes.specs.Sifting.{sifted_nodes, sift_redirects, expand_sifted, AreSifted}
+use Rattle.layer_nodes.specs.Sifting.{sifted_nodes, sift_redirects, expand_sifted, AreOrdered, AreSifted}
 use Rattle.layer_nodes.proofs.KeyRows.{rows-of-nodes, found-by}
 use Rattle.layer_nodes.proofs.Routed.{led, routed-led}
 use Rattle.layer_nodes.proofs.Spans.{length-spanned}
@@ -293,7 +295,34 @@ whole-sifted dp k t low region nodes mid new ways marks arcs routes nodes2 below
     }
 
 -- the same by equal parts
-pub sifted-by : (dp : Dp) (k : ℕ) (t : Option ℤ) (region : RegionView) (ways ways2 : List Way) (marks marks2 : List Bool) (routes : List Route) (nodes : List Node)
-    → AreSifted dp k t region ways marks routes nodes → ways ≡ ways2 → marks ≡ marks2 → AreSifted dp k t region ways2 marks2 routes nodes
-sifted-by dp k t region ways ways2 marks marks2 routes nodes h c d =
-    subst (λ x. AreSifted dp k t region x marks2 routes nodes) c (subst (λ x. AreSifted dp k t region ways x routes nodes) d h)
+pub ordered-by : (held : ℕ → List ℤ) (listed : List Key) (ways ways2 : List Way) (marks marks2 : List Bool) (routes : List Route) (nodes : List Node)
+    → AreOrdered held listed ways marks routes nodes → ways ≡ ways2 → marks ≡ marks2 → AreOrdered held listed ways2 marks2 routes nodes
+ordered-by held listed ways ways2 marks marks2 routes nodes h c d =
+    subst (λ x. AreOrdered held listed x marks2 routes nodes) c (subst (λ x. AreOrdered held listed ways x routes nodes) d h)
+
+-- the keys of the ways that are not struck were put in order
+module _ (dp : Dp) (k : ℕ) (t : Option ℤ) (region left : RegionView) (ways : List Way) (marks : List Bool) (routes : List Route) (nodes : List Node) (listed : List Key) (held : AreLive region (rows_of ways))
+    (is : listed ≡ unstruck_keys dp k t region ways) (stay : HasLeft region (rows_of ways) left (key_rows listed)) (h : AreOrdered (held_row left) listed ways marks routes nodes) where
+  ordered-all : IsPermutation (unstruck_keys dp k t region ways) h.keys
+  ordered-all = subst (λ l. IsPermutation l h.keys) is h.all
+
+  ordered-stay : HasLeft region (rows_of ways) left (key_rows h.keys)
+  ordered-stay = left-moved region left (rows_of ways) (key_rows listed) (key_rows h.keys) (IsPermutation-map (λ (key : Key). key.row) listed h.keys h.all) stay
+
+  pub ordered-sifted : AreSifted dp k t region ways marks routes nodes
+  ordered-sifted =
+      let keys = h.keys in
+      let still = rows-same region left keys ordered-stay.same (key-places-of (IsLive region) ways keys (unstruck-are dp k t region ways keys ordered-all) held.live) in
+      record {
+        keys = keys;
+        all = ordered-all;
+        sorted = sorted-same (held_row left) (held_row region) keys
+            (Each-then (λ (key : Key). held_row left key.row ≡ held_row region key.row) (λ (key : Key). held_row region key.row ≡ held_row left key.row) keys (λ key e. sym e) still) h.sorted;
+        numbered = h.numbered;
+        unnumbered = h.unnumbered;
+        plain = h.plain;
+        nodes_are = h.nodes_are;
+      }
+
+  pub ordered-left : HasLeft region (rows_of ways) left (rows_in nodes)
+  ordered-left = subst (HasLeft region (rows_of ways) left) (sym (ap rows_in h.nodes_are ∙ rows-of-nodes ways marks h.keys)) ordered-stay

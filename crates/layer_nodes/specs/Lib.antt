@@ -11,3 +11,4 @@ pub mod Keeping
 pub mod Merging
 pub mod Ending
 pub mod Holding
+pub mod Reducing

@@ -29,6 +29,7 @@ mod merging;
 mod node;
 mod numbering;
 mod redirecting;
+mod reducing;
 mod routing;
 mod striking;
 

@@ -29,7 +29,7 @@ use std::snapshot::Snapshot;
 const GREATEST_GAP: i64 = 1 << 50;
 
 /// The node's value with the gap, or none where there is none.
-fn lifted(node: Node, gap: Option<i64>) -> Option<i64>
+pub(crate) fn lifted(node: Node, gap: Option<i64>) -> Option<i64>
     requires near { IsNearly node.value }
     requires small { IfSome gap (λ g. IsSmall g) }
     ensures { result ≡ add_some node.value gap }
@@ -74,15 +74,15 @@ fn merge_into_row<M: DpModel>(
 
 /// The row into which nodes are merged, while their arcs are led to it.
 #[derive(Clone, Copy)]
-struct MergedRow<'r> {
-    state: &'r [i64],
-    rank: i64,
+pub(crate) struct MergedRow<'r> {
+    pub(crate) state: &'r [i64],
+    pub(crate) rank: i64,
     // the place of its node among those of the layer
-    place: u32,
+    pub(crate) place: u32,
 }
 
 /// The gap from the merged row to the node's row. The ranks spare a part of the sums over the cells.
-fn gap_to<M: DpModel>(
+pub(crate) fn gap_to<M: DpModel>(
     model: &M,
     k: usize,
     region: &Region,

@@ -1,4 +1,5 @@
 use Rattle.std.proofs.Common.{◌<◌, Some, pos, length, refl, sym, ◌∙◌, arith}
+use Rattle.std.proofs.lemmas.List.{length-set}
 use Rattle.layer_candidates.specs.declared.key.Key.{Key}
 use Rattle.layer_nodes.specs.declared.routing.Route.{Route}
 use Rattle.layer_nodes.specs.Expanding.{key_in}
@@ -20,4 +21,5 @@ keys-preserved c =
       numbered = numbered-more a.keys.now c.keys.routes i route refl (let inside : way < length a.routes.now = less in omega arith) was.numbered;
       others = λ p apart. number-other c.keys.routes way p route (λ e. apart i (omega arith) (sym e)) ∙ was.others p (λ j low. apart j (omega arith));
       plain = each-set IsPlain c.keys.routes way route refl was.plain;
+      same = length-set c.keys.routes way route ∙ was.same;
     }
