@@ -24,3 +24,4 @@ pub mod Holding
 pub mod InOrder
 pub mod MergedKeys
 pub mod Listed
+pub mod Reordered
