@@ -247,9 +247,18 @@ module _ (dp : Dp) (k : ℕ) (row : ℕ → List ℤ) (ways : List Way) (marks :
         keys-ranked distinct any ks h.1 found.1,
       )
 
-  pub keys-unmerged : (any : List DdArc) (ks : List Key) → Each (λ (n : NodeView). IsSome n.parent) (map (node_view_by held any) (map (node_of ways marks) ks))
-  keys-unmerged any [] = tt
-  keys-unmerged any (key ∷ ks) = (refl, keys-unmerged any ks)
+-- nodes of keys have parents
+keys-unmerged : (ways : List Way) (marks : List Bool) (ks : List Key) → Each (λ (n : Node). IsSome n.parent) (map (node_of ways marks) ks)
+keys-unmerged ways marks [] = tt
+keys-unmerged ways marks (key ∷ ks) = (refl, keys-unmerged ways marks ks)
+
+pub nodes-unmerged : (ways : List Way) (marks : List Bool) (ks : List Key) (nodes : List Node) → nodes ≡ map (node_of ways marks) ks → Each (λ (n : Node). IsSome n.parent) nodes
+nodes-unmerged ways marks ks nodes is = subst (Each (λ (n : Node). IsSome n.parent)) (sym is) (keys-unmerged ways marks ks)
+
+-- nodes in memory are seen with their parents
+pub unmerged-seen : (row : ℕ → List ℤ) (arcs : List DdArc) (nodes : List Node) → Each (λ (n : Node). IsSome n.parent) nodes → Each (λ (n : NodeView). IsSome n.parent) (map (node_view_by row arcs) nodes)
+unmerged-seen row arcs [] h = tt
+unmerged-seen row arcs (node ∷ nodes) h = (h.0, unmerged-seen row arcs nodes h.1)
 
 -- nodes of keys have no arcs
 pub keys-bare : (ways : List Way) (marks : List Bool) (any : List DdArc) (ks : List Key) → Each (HasArcsIn any) (map (node_of ways marks) ks)
@@ -329,9 +338,6 @@ module _ (dp : Dp) (k : ℕ) (low : k < dp.vars) (region : RegionView) (old : Li
   pub next-ranked : (any : List DdArc) → Each (IsRanked dp (k + 1)) (map (node_view_by (held_row new) any) below)
   next-ranked any = subst (λ l. Each (IsRanked dp (k + 1)) (map (node_view_by (held_row new) any) l)) (sym arranged.nodes_are) (keys-ranked dp k row ways marks (held_row new) distinct any keys layer-keys layer-found)
 
-  pub next-unmerged : (any : List DdArc) → Each (λ (n : NodeView). IsSome n.parent) (map (node_view_by (held_row new) any) below)
-  next-unmerged any = subst (λ l. Each (λ (n : NodeView). IsSome n.parent) (map (node_view_by (held_row new) any) l)) (sym arranged.nodes_are) (keys-unmerged dp k row ways marks (held_row new) any keys)
-
   pub next-length : length below ≡ length ways
   next-length = ap length arranged.nodes_are ∙ (length-map keys (node_of ways marks) ∙ length-keys ways keys arranged.all)
 
@@ -350,7 +356,6 @@ whole dp k low region nodes new ways marks arcs routes nodes2 below distinct lis
   places = ap rows_in spans ∙ places-stay dp k (held_row region) 0 nodes;
   rest = λ before. above-rest dp k low region before nodes new ways marks arcs routes nodes2 below distinct list tried spans arranged;
   ranked = λ any. next-ranked dp k low region any nodes new ways marks arcs routes nodes2 below distinct list tried spans arranged any;
-  unmerged = λ any. next-unmerged dp k low region any nodes new ways marks arcs routes nodes2 below distinct list tried spans arranged any;
   arcs_lie = above-arcs dp k low region (to_ways arcs) nodes new ways marks arcs routes nodes2 below distinct list tried spans arranged;
   bare = λ any. next-bare dp k low region any nodes new ways marks arcs routes nodes2 below distinct list tried spans arranged any;
   same = above-length dp k low region (to_ways arcs) nodes new ways marks arcs routes nodes2 below distinct list tried spans arranged;

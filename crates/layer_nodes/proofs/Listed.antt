@@ -1,5 +1,5 @@
 -- Keys that are listed, as they stand or in another order.
-use Rattle.std.proofs.Common.{◌≡◌, ◌≢◌, ℕ, ◌<◌, ◌≤◌, ℤ, List, [], ◌∷◌, length, map, nat_eq, Option, Some, IsPermutation, inl, refl, sym, ◌∙◌, ap, subst, arith}
+use Rattle.std.proofs.Common.{◌≡◌, ◌≢◌, ℕ, ◌<◌, ◌≤◌, ℤ, List, [], ◌∷◌, length, nat_eq, Option, Some, IsPermutation, sym, ◌∙◌, ap, subst, arith}
 use Rattle.std.proofs.lemmas.List.Sorted.{IsPermutation-map, IsPermutation-refl, length_permutation}
 use Rattle.dp_model.specs.Dp.{Dp}
 use Rattle.dp_model.specs.Gaps.{IsStateOf}
@@ -11,7 +11,7 @@ use Rattle.dp_laws.specs.Pairs.{EachTwo}
 use Rattle.dp_laws.proofs.Restricted.Permutations.{each-permutation, keys-permutation}
 use Rattle.layer_candidates.specs.declared.key.Key.{Key}
 use Rattle.layer_candidates.specs.declared.way.Way.{Way}
-use Rattle.layer_candidates.specs.HeldRows.{held_row, AreLive, AreSame, HasLeft}
+use Rattle.layer_candidates.specs.HeldRows.{held_row, AreLive, HasLeft}
 use Rattle.layer_candidates.specs.KeyOrder.{key_rows, IsKeyOf}
 use Rattle.layer_candidates.specs.Pruning.{unstruck_keys, IsKeyIn}
 use Rattle.layer_candidates.specs.Rows.{HasZeros}

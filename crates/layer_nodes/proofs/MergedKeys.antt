@@ -12,7 +12,7 @@ use Rattle.dp_laws.specs.Rules.Reducing.{merged_row}
 use Rattle.layer_candidates.specs.declared.key.Key.{Key}
 use Rattle.layer_candidates.proofs.HeldRows.{each-here, each-left, each-right, put-same, exchange-beside, exchange-then}
 use Rattle.layer_candidates.specs.declared.way.Way.{Way}
-use Rattle.layer_candidates.specs.HeldRows.{held_row, AreLive, AreSame, HasExchanged}
+use Rattle.layer_candidates.specs.HeldRows.{held_row, AreLive, HasExchanged}
 use Rattle.layer_candidates.specs.KeyOrder.{key_rows}
 use Rattle.row_region.specs.Region.{RegionView, IsRow, HasPut}
 use Rattle.row_region.proofs.Callers.{put_row}
@@ -22,7 +22,7 @@ use Rattle.layer_nodes.specs.Leading.{IsNodeBy, bare}
 use Rattle.layer_nodes.specs.Expanding.{key_in, number_at, IsNumbered, node_of}
 use Rattle.layer_nodes.specs.Holding.{HaveRows}
 use Rattle.layer_nodes.specs.Merging.{greater, lifted, merged_at}
-use Rattle.layer_nodes.specs.Reducing.{key_node, bare_keys, IsKeyNode, route_to, merged_route, row_of_keys, LeadHere, LeadToMerged, HasMergedKeys}
+use Rattle.layer_nodes.specs.Reducing.{key_node, bare_keys, IsKeyNode, merged_route, row_of_keys, LeadHere, LeadToMerged, HasMergedKeys}
 use Rattle.layer_nodes.specs.Routing.{nowhere, route_at, IsPlain}
 use Rattle.layer_nodes.specs.Stored.{rows_in}
 use Rattle.layer_nodes.proofs.Exchanges.{rows-same, live-right, exchange-push}

@@ -1,5 +1,5 @@
 -- A layer that was expanded in memory without its struck nodes is that of the rules, whatever the paths are.
-use Rattle.std.proofs.Common.{◌≡◌, ◌≢◌, ℕ, zero, suc, ◌+◌, ◌*◌, ◌<◌, ◌≤◌, ℤ, pos, ◌+ℤ◌, Bool, true, false, not, cond, List, [], ◌∷◌, length, map, slice_get, Option, Some, None, IsPermutation, IsSome, option_and_then, inl, inr, refl, sym, ◌∙◌, ap, ap₂, subst, arith}
+use Rattle.std.proofs.Common.{◌≡◌, ◌≢◌, ℕ, zero, suc, ◌+◌, ◌*◌, ◌<◌, ◌≤◌, ℤ, pos, ◌+ℤ◌, Bool, true, false, not, cond, List, [], ◌∷◌, length, map, slice_get, Option, Some, None, IsPermutation, option_and_then, inl, inr, refl, sym, ◌∙◌, ap, ap₂, subst, arith}
 use Rattle.std.proofs.lemmas.Int.{ints}
 use Rattle.std.proofs.lemmas.List.{length-map}
 use Rattle.std.proofs.lemmas.List.Sorted.{IsPermutation-map}
@@ -37,7 +37,7 @@ use Rattle.layer_candidates.proofs.Sorted.{key-places-of, sorted-same, unstruck-
 use Rattle.layer_nodes.specs.declared.node.Node.{Node}
 use Rattle.layer_nodes.specs.declared.routing.Route.{Route}
 use Rattle.layer_nodes.specs.declared.routing.StoredArc.{StoredArc}
-use Rattle.layer_nodes.specs.Nodes.{NodeView, shown_layer, shown_below, without_arcs}
+use Rattle.layer_nodes.specs.Nodes.{shown_layer, shown_below, without_arcs}
 use Rattle.row_region.specs.Region.{RegionView, IsLive}
 use Rattle.layer_nodes.specs.Routing.{routed, routed_arcs, to_way, to_ways}
 use Rattle.layer_nodes.specs.Stored.{node_view_by, rows_in, HasArcsIn}
@@ -49,7 +49,7 @@ use Rattle.layer_nodes.proofs.Routed.{led, routed-led}
 use Rattle.layer_nodes.proofs.Spans.{length-spanned}
 use Rattle.layer_nodes.proofs.Shown.{map-map}
 use Rattle.layer_nodes.proofs.Tried.{length-arcs}
-use Rattle.layer_nodes.proofs.Expanded.{members-shown, place-of, row-found, get_or-any, above-from, keys-shown, rows-of, rest-stays, places-stay, arcs-within, IsFoundBy, keys-ranked, keys-unmerged, keys-bare}
+use Rattle.layer_nodes.proofs.Expanded.{members-shown, place-of, row-found, get_or-any, above-from, keys-shown, rows-of, rest-stays, places-stay, arcs-within, IsFoundBy, keys-ranked, keys-bare}
 
 -- What is left of nodes.
 
@@ -259,9 +259,6 @@ module _ (dp : Dp) (k : ℕ) (t : Option ℤ) (low : k < dp.vars) (region : Regi
   pub next-ranked : (any : List DdArc) → Each (IsRanked dp (k + 1)) (map (node_view_by held any) below)
   next-ranked any = subst (λ l. Each (IsRanked dp (k + 1)) (map (node_view_by held any) l)) (sym arranged.nodes_are) (keys-ranked dp k row ways marks held distinct any keys layer-keys found)
 
-  pub next-unmerged : (any : List DdArc) → Each (λ (n : NodeView). IsSome n.parent) (map (node_view_by held any) below)
-  next-unmerged any = subst (λ l. Each (λ (n : NodeView). IsSome n.parent) (map (node_view_by held any) l)) (sym arranged.nodes_are) (keys-unmerged dp k row ways marks held any keys)
-
   pub next-few : length below ≤ length ways
   next-few = (let size = ap length arranged.nodes_are ∙ length-map keys (node_of ways marks) in let few = unstruck-length dp (k + 1) t mid ways keys arranged.all in omega arith)
 
@@ -286,7 +283,6 @@ whole-sifted dp k t low region nodes mid new ways marks arcs routes nodes2 below
       places = ap rows_in spans ∙ places-stay dp k (held_row region) 0 nodes;
       rest = λ before. ap (λ m. map without_arcs (map (node_view_by (held_row region) (routed_arcs routes arcs)) m)) spans ∙ rest-stays dp k (held_row region) before (routed_arcs routes arcs) 0 nodes;
       ranked = λ any. next-ranked dp k t low region any nodes mid ways marks arcs routes nodes2 below distinct list tried spans arranged held found any;
-      unmerged = λ any. next-unmerged dp k t low region any nodes mid ways marks arcs routes nodes2 below distinct list tried spans arranged held found any;
       arcs_lie = above-arcs dp k t low region (to_ways arcs) nodes mid ways marks arcs routes nodes2 below distinct list tried spans arranged held found;
       bare = λ any. next-bare dp k t low region any nodes mid ways marks arcs routes nodes2 below distinct list tried spans arranged held found any;
       same = ap length spans ∙ length-spanned dp k (held_row region) 0 nodes;

@@ -1,5 +1,5 @@
 -- A layer is expanded: what its nodes are tried by, and what comes of it.
-use Rattle.std.specs.Prelude.{◌≡◌, ℕ, ◌+◌, ◌*◌, ◌<◌, ◌≤◌, nat_eq, ℤ, pos, Bool, true, false, not, ◌&&◌, ◌||◌, List, [], ◌∷◌, ◌++◌, length, map, set, slice_index_or, Option, Some, None, IsSome, IsPermutation, IsSortedBy}
+use Rattle.std.specs.Prelude.{◌≡◌, ℕ, ◌+◌, ◌*◌, ◌<◌, ◌≤◌, nat_eq, ℤ, pos, Bool, true, false, not, ◌&&◌, ◌||◌, List, [], ◌∷◌, ◌++◌, length, map, set, slice_index_or, Option, Some, None, IsPermutation, IsSortedBy}
 use Rattle.dp_model.specs.Decisions.{below}
 use Rattle.dp_model.specs.Dp.{Dp}
 use Rattle.dp_model.specs.Lists.{Each}
@@ -15,7 +15,7 @@ use Rattle.layer_candidates.specs.KeyOrder.{keys_of, goes_before}
 use Rattle.layer_candidates.specs.Ways.{way_at}
 use Rattle.layer_nodes.specs.declared.node.Node.{Node}
 use Rattle.layer_nodes.specs.declared.routing.Route.{Route}
-use Rattle.layer_nodes.specs.Nodes.{NodeView, shown_layer, shown_below, without_arcs}
+use Rattle.layer_nodes.specs.Nodes.{shown_layer, shown_below, without_arcs}
 use Rattle.layer_nodes.specs.Routing.{route_at, IsPlain}
 use Rattle.layer_nodes.specs.Steps.{IsRanked}
 use Rattle.layer_nodes.specs.Stored.{node_view_by, rows_in, HasArcsIn}
@@ -156,7 +156,6 @@ pub record IsExpanded (rule : List DdNode → TwoLayers) (dp : Dp) (k : ℕ) (ab
   pub rest : (before : List DdArc) → map without_arcs (map (node_view_by above arcs) new) ≡ map without_arcs (map (node_view_by above before) old)
   pub places : rows_in new ≡ rows_in old
   pub ranked : (any : List DdArc) → Each (IsRanked dp (k + 1)) (map (node_view_by held any) below)
-  pub unmerged : (any : List DdArc) → Each (λ (n : NodeView). IsSome n.parent) (map (node_view_by held any) below)
   pub arcs_lie : Each (HasArcsIn arcs) new
   pub bare : (any : List DdArc) → Each (HasArcsIn any) below
   pub same : length new ≡ length old

@@ -95,6 +95,7 @@ fn expand_nodes<M: DpModel>(
     requires room { length above.old * (M.meaning (M.numbers model.now)).choices descent.k ≤ expansion.old.most }
     requires spare { length above.old * (M.meaning (M.numbers model.now)).choices descent.k + 1 ≤ region.old.spare }
     ensures expanded { IsExpanded (expanded_by descent.strikes (M.meaning (M.numbers model.now)) descent.k) (M.meaning (M.numbers model.now)) descent.k (held_row region.old) above.old above.new (routed_arcs routes.new.items arcs.new.items) (held_row region.new) below.new.items }
+    ensures unmerged { Each (λ n. IsSome n.parent) below.new.items }
     ensures exchanged { HasExchanged region.old [] region.new (rows_in below.new.items) }
     ensures arcs_capacity { vec_capacity arcs.new ≡ vec_capacity arcs.old }
     ensures routes_capacity { vec_capacity routes.old ≤ vec_capacity routes.new }

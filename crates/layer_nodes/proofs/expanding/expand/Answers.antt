@@ -11,7 +11,7 @@ use Rattle.layer_nodes.specs.Nodes.{LayerView, shown_layer, shown_below, without
 use Rattle.layer_nodes.specs.Steps.{IsParent}
 use Rattle.layer_nodes.specs.Routing.{routed_arcs}
 use Rattle.layer_nodes.specs.Stored.{node_view_by, rows_in}
-use Rattle.layer_nodes.proofs.Expanded.{members-of, above-by, next-by, rest-by, ranked-held}
+use Rattle.layer_nodes.proofs.Expanded.{members-of, above-by, next-by, rest-by, ranked-held, unmerged-seen}
 use Rattle.layer_nodes.proofs.Holding.{held-rows}
 use Rattle.layer_nodes.proofs.Routed.{stored-lie}
 use Rattle.layer_nodes.proofs.Shown.{places-seen}
@@ -86,6 +86,12 @@ returns-clause-rest g c =
       nodes_room = ap (λ (l : LayerView). l.nodes_room) c.above.view_is;
       arcs_room = search rules;
     }
+
+pub returns-clause-unmerged : goal.returns-clause-unmerged
+returns-clause-unmerged g c =
+    let N = c.next.inside in
+    let e = c.expand_nodes in
+    unmerged-seen (held_row c.of.result.value) (routed_arcs N.routes.items N.arcs.items) e.new.below.items e.ensures.unmerged
 
 pub returns-clause-held : goal.returns-clause-held
 returns-clause-held g c =

@@ -6,7 +6,7 @@ use Rattle.layer_nodes.specs.Expanding.{IsExpanded}
 use Rattle.layer_nodes.specs.Routing.{routed_arcs}
 use Rattle.layer_nodes.specs.Sifting.{expanded_by}
 use Rattle.layer_nodes.specs.Stored.{Room, rows_in}
-use Rattle.layer_nodes.proofs.Expanded.{whole}
+use Rattle.layer_nodes.proofs.Expanded.{whole, nodes-unmerged}
 use Rattle.layer_nodes.proofs.KeyRows.{arranged-exchanged}
 use Rattle.layer_nodes.proofs.SiftedLayers.{whole-sifted}
 use Rattle.layer_candidates.proofs.WayTables.{room-kept, keeps-self}
@@ -32,6 +32,12 @@ returns-in-AtMost-clause-expanded g c =
     (whole-sifted dp k t c.requires.layer a.region.now a.above.now e.new.region f.new.region e.new.found.table.ways.items e.new.found.marks.items e.new.arcs.items f.new.routes.items e.new.nodes f.new.nodes.items
     e.ensures.distinct e.ensures.list e.ensures.tried e.ensures.nodes e.ensures.few e.ensures.arcs_few f.ensures.arranged f.ensures.left)
 
+pub returns-in-AtMost-clause-unmerged : goal.returns-in-AtMost-clause-unmerged
+returns-in-AtMost-clause-unmerged g c =
+    let e = c.extend_layer in
+    let f = c.arrange_unstruck in
+    nodes-unmerged e.new.found.table.ways.items e.new.found.marks.items f.ensures.arranged.keys f.new.nodes.items f.ensures.arranged.nodes_are
+
 pub returns-in-AtMost-clause-exchanged : goal.returns-in-AtMost-clause-exchanged
 returns-in-AtMost-clause-exchanged g c =
     let e = c.extend_layer in
@@ -48,6 +54,12 @@ returns-in-Nothing-clause-expanded g c =
     subst (λ s. IsExpanded (expanded_by s dp k) dp k (held_row a.region.now) a.above.now e.new.nodes (routed_arcs f.new.routes.items e.new.arcs.items) (held_row e.new.region) f.new.nodes.items) (sym c.in-Nothing.is)
     (whole dp k c.requires.layer a.region.now a.above.now e.new.region e.new.found.table.ways.items e.new.found.marks.items e.new.arcs.items f.new.routes.items e.new.nodes f.new.nodes.items
     e.ensures.distinct e.ensures.list e.ensures.tried e.ensures.nodes e.ensures.few e.ensures.arcs_few f.ensures.arranged)
+
+pub returns-in-Nothing-clause-unmerged : goal.returns-in-Nothing-clause-unmerged
+returns-in-Nothing-clause-unmerged g c =
+    let e = c.extend_layer in
+    let f = c.arrange in
+    nodes-unmerged e.new.found.table.ways.items e.new.found.marks.items f.ensures.arranged.keys f.new.nodes.items f.ensures.arranged.nodes_are
 
 pub returns-in-Nothing-clause-exchanged : goal.returns-in-Nothing-clause-exchanged
 returns-in-Nothing-clause-exchanged g c =

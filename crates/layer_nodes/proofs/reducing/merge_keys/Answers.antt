@@ -1,4 +1,4 @@
-use Rattle.std.proofs.Common.{rules, ◌≡◌, ◌≢◌, ◌++◌, false, None, ℕ, pos, unwrap_or, [], ◌∷◌, List, length, map, take, drop, w64, sym, ◌∙◌, ap, ap₂, subst, arith}
+use Rattle.std.proofs.Common.{rules, ◌≡◌, ◌≢◌, ◌++◌, false, None, ℕ, pos, unwrap_or, [], ◌∷◌, List, length, drop, w64, sym, ◌∙◌, ap, ap₂, subst}
 use Rattle.std.proofs.lemmas.Int.{to_z-of_z}
 use Rattle.std.proofs.lemmas.List.{with_items_is}
 use Rattle.dp_model.specs.Lists.{Each}
@@ -7,7 +7,6 @@ use Rattle.dp_laws.specs.Pairs.{EachTwo}
 use Rattle.layer_candidates.specs.declared.key.Key.{Key}
 use Rattle.layer_candidates.specs.HeldRows.{AreLive, HasExchanged, held_row}
 use Rattle.layer_candidates.specs.KeyOrder.{key_rows}
-use Rattle.layer_nodes.specs.declared.node.Node.{Node}
 use Rattle.layer_nodes.specs.declared.routing.Route.{Route}
 use Rattle.layer_nodes.specs.Merging.{lifted}
 use Rattle.layer_nodes.specs.Reducing.{bare_keys, row_of_keys, LeadToMerged, HasMergedKeys}

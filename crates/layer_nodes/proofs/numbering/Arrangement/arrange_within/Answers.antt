@@ -1,16 +1,15 @@
-use Rattle.std.proofs.Common.{◌≡◌, ◌-◌, ◌<◌, false, List, length, map, IsPermutation, sym, ap, ap₂, subst, ◌∙◌, arith}
+use Rattle.std.proofs.Common.{◌≡◌, ◌-◌, false, length, IsPermutation, ap, subst, ◌∙◌, arith}
 use Rattle.std.proofs.lemmas.List.Sorted.{IsPermutation-map, length_permutation}
 use Rattle.dp_model.specs.Lists.{Each}
 use Rattle.dp_laws.proofs.Restricted.Permutations.{each-permutation}
 use Rattle.layer_candidates.specs.declared.key.Key.{Key}
-use Rattle.layer_candidates.specs.declared.way.Way.{Way}
 use Rattle.layer_candidates.specs.HeldRows.{held_row}
 use Rattle.layer_candidates.specs.KeyOrder.{key_rows}
 use Rattle.layer_candidates.specs.Ways.{rows_of}
 use Rattle.layer_candidates.proofs.HeldRows.{left-moved}
 use Rattle.layer_nodes.specs.declared.extending.MarkedWays.{MarkedWays}
 use Rattle.layer_nodes.specs.Expanding.{mark_at}
-use Rattle.layer_nodes.specs.Reducing.{AreListed, HasMergedKeys}
+use Rattle.layer_nodes.specs.Reducing.{HasMergedKeys}
 use Rattle.layer_nodes.proofs.Listed.{listed-within, listed-moved}
 use Rattle.layer_nodes.proofs.SiftedLayers.{ordered-by, ordered-sifted, ordered-left}
 use Rattle.layer_nodes.proofs.numbering.Arrangement.arrange_within.Goals as goal
