@@ -1,5 +1,6 @@
 -- A layer is expanded in the same way whatever arcs it had.
-use Rattle.std.proofs.Common.{◌≡◌, ℕ, ℤ, Bool, ◌&&◌, ◌||◌, not, ◌+◌, List, [], ◌∷◌, map, None, refl, sym, ap, ap₂, ◌∙◌, subst}
+use Rattle.std.proofs.Common.{◌≡◌, ℕ, ℤ, Bool, true, false, cond, ◌&&◌, ◌||◌, not, ◌+◌, ◌<◌, nat_lt, List, [], ◌∷◌, length, map, Option, None, refl, sym, ap, ap₂, ◌∙◌, subst, arith}
+use Rattle.std.proofs.lemmas.Bool.Decides.{nat_tests}
 use Rattle.dp_model.specs.Dp.{Dp}
 use Rattle.dp_model.specs.Lists.{Each}
 use Rattle.dp_model.specs.Reached.{Reached}
@@ -7,13 +8,15 @@ use Rattle.dp_laws.specs.Restricted.Beam.{expanded}
 use Rattle.dp_laws.specs.Diagrams.Nodes.{DdNode, prefix_at}
 use Rattle.dp_laws.specs.Diagrams.Seen.{decisions_at}
 use Rattle.dp_laws.specs.Rules.Expanding.{makes, is_exact_row, node_for, new_layer, with_arcs, arc_of}
-use Rattle.dp_laws.specs.Rules.Compiling.{expand}
+use Rattle.dp_laws.specs.Rules.Compiling.{TwoLayers, expand, merge_rest}
 use Rattle.dp_laws.specs.Rules.Redirects.{with_redirected}
 use Rattle.layer_nodes.specs.Nodes.{NodeView, shown_from, shown_layer, without_arcs}
 use Rattle.layer_nodes.specs.Steps.{IsParent}
 use Rattle.layer_nodes.specs.declared.striking.Strikes.{Strikes}
 use Rattle.layer_nodes.specs.declared.striking.Strikes.TheVariants.{AtMost, Nothing}
-use Rattle.layer_nodes.specs.Sifting.{sifted_nodes, sift_redirects, expanded_by}
+use Rattle.layer_nodes.specs.Sifting.{sifted_nodes, sift_redirects, expand_sifted, expanded_by, expanded_within}
+use Rattle.layer_build.specs.declared.stack.Making.TheVariants.{Within}
+use Rattle.layer_build.specs.Within.{within_width, expanded_as, AreMergeable, MayMerge}
 
 -- a node without its arcs
 abbrev pub bare : DdNode → DdNode
@@ -80,3 +83,25 @@ alike-parents dp k (o ∷ old) (n ∷ new) e h =
     let rest : map without_arcs new ≡ map without_arcs old = cc in
     let one : IsParent dp k (without_arcs n) = subst (IsParent dp k) (sym same) (record { state = h.0.state; rank = h.0.rank; hash = h.0.hash; value = h.0.value }) in
     (record { state = one.state; rank = one.rank; hash = one.hash; value = one.value }, alike-parents dp k old new rest h.1)
+
+-- ---- merged at once
+
+alike-sifted : (t : Option ℤ) (dp : Dp) (k : ℕ) (paths : ℕ → List ℕ) (old new : List NodeView) → map without_arcs new ≡ map without_arcs old → expand_sifted dp k t (shown_layer paths new) ≡ expand_sifted dp k t (shown_layer paths old)
+alike-sifted t dp k paths old new e =
+    ap₂ (λ (above next : List DdNode). (let two : TwoLayers = record { above = above; next = next } in two)) (alike-above (AtMost t) dp k paths old new e) (alike-next (AtMost t) dp k paths old new e)
+
+-- what is merged at once is wider than the width
+pub alike-within : (t : Option ℤ) (merged : Bool) (dp : Dp) (w k : ℕ) (paths : ℕ → List ℕ) (old new : List NodeView) → map without_arcs new ≡ map without_arcs old
+    → (merged ≡ true → w < length (expand_sifted dp k t (shown_layer paths new)).next)
+    → expanded_within merged dp k t w (shown_layer paths new) ≡ expanded_as (Within t) merged dp w k (shown_layer paths old)
+alike-within t true dp w k paths old new e wide =
+    let two = expand_sifted dp k t (shown_layer paths new) in
+    let more : nat_lt w (length two.next) ≡ true = (let less = wide refl in grind (arith, nat_tests)) in
+    sym (ap (λ b. cond b (merge_rest dp (k + 1) w two) two) more) ∙ ap (within_width dp w (k + 1)) (alike-sifted t dp k paths old new e)
+alike-within t false dp w k paths old new e wide = alike-sifted t dp k paths old new e
+
+pub alike-merged : (t : Option ℤ) (dp : Dp) (w k : ℕ) (paths : ℕ → List ℕ) (old new : List NodeView) → map without_arcs new ≡ map without_arcs old
+    → w < length (expand_sifted dp k t (shown_layer paths new)).next → Each (λ (node : DdNode). node.exact ≡ false) (expand_sifted dp k t (shown_layer paths new)).next
+    → MayMerge (Within t) dp w k (shown_layer paths old)
+alike-merged t dp w k paths old new e wide inexact =
+    subst (λ (two : TwoLayers). AreMergeable w two.next) (alike-sifted t dp k paths old new e) (record { wide = wide; inexact = inexact })

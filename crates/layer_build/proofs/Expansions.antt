@@ -1,5 +1,6 @@
--- Rules by which a layer is expanded: the whole next layer, and that without its struck nodes.
-use Rattle.std.proofs.Common.{◌≡◌, ℕ, ◌+◌, ◌*◌, ◌<◌, ◌≤◌, ℤ, pos, Bool, true, false, not, List, length, slice_get, Option, Some, IsTrue, refl, sym, ap, ◌∙◌, subst, arith}
+-- Rules by which a layer is expanded: the whole next layer, that without its struck nodes, and that merged to the width.
+use Rattle.std.proofs.Common.{◌≡◌, ℕ, ◌+◌, ◌*◌, ◌<◌, ◌≤◌, nat_lt, ℤ, pos, Bool, true, false, not, cond, List, length, slice_get, Option, Some, IsTrue, refl, sym, ap, ◌∙◌, subst, arith}
+use Rattle.std.proofs.lemmas.Bool.Decides.{nat_tests}
 use Rattle.std.proofs.lemmas.Int.{ints}
 use Rattle.std.proofs.lemmas.List.Sums.{length-filter, count_by-le-length}
 use Rattle.dp_model.specs.Dp.{Dp}
@@ -7,29 +8,33 @@ use Rattle.dp_model.specs.Gaps.{IsStateOf}
 use Rattle.dp_model.specs.Laws.{IsLawful}
 use Rattle.dp_model.proofs.Members.{Has, Has-filter-from, each-has, each-of-all}
 use Rattle.dp_laws.specs.Diagrams.Nodes.{DdNode}
-use Rattle.dp_laws.specs.Rules.Compiling.{TwoLayers, expand}
+use Rattle.dp_laws.specs.Rules.Compiling.{TwoLayers, expand, merge_rest}
 use Rattle.dp_laws.specs.Rules.Pruning.{is_struck}
 use Rattle.dp_laws.specs.Rules.Redirects.{Redirect}
+use Rattle.dp_laws.specs.Rules.Reducing.{merge_redirects}
 use Rattle.dp_laws.specs.Rules.Within.{IsBetween, IsLayerWithin, AreWithin}
 use Rattle.dp_laws.proofs.Diagrams.Places.{same-Some, Has-at}
 use Rattle.dp_laws.proofs.Rules.Redirecting.{GoesTo}
-use Rattle.dp_laws.proofs.Rules.Within.{expand-within, redirect-within}
+use Rattle.dp_laws.proofs.Rules.Within.{expand-within, redirect-within, merge-within}
 use Rattle.layer_nodes.specs.declared.striking.Strikes.{Strikes}
 use Rattle.layer_nodes.specs.declared.striking.Strikes.TheVariants.{AtMost, Nothing}
 use Rattle.layer_nodes.specs.Sifting.{sifted_nodes, sift_redirects, sifted, expand_sifted, expanded_by}
 use Rattle.layer_nodes.proofs.SiftedLayers.{struck-at, stays-at}
+use Rattle.layer_build.specs.declared.stack.Making.{Making}
+use Rattle.layer_build.specs.declared.stack.Making.TheVariants.{By, Within}
 use Rattle.layer_build.specs.Stacked.{HaveDepth}
-use Rattle.layer_build.proofs.Depths.{expanded-above, expanded-next, redirected-depth}
+use Rattle.layer_build.specs.Within.{within_width, expanded_as}
+use Rattle.layer_build.proofs.Depths.{expanded-above, expanded-next, redirected-depth, merged-depth}
 
--- the layers of the rule at each depth stay within the bounds, and its exact nodes keep paths of their depth
-pub record Expands (dp : Dp) (rule : ℕ → List DdNode → TwoLayers) : Type 0 where
-  pub within : (k w : ℕ) (layer : List DdNode) → k < dp.vars → IsLayerWithin dp k w layer → AreWithin dp k w (rule k layer)
+-- the layers of the rule at each depth stay within the bounds that hold for this width, and its exact nodes keep paths of their depth
+pub record Expands (dp : Dp) (w : ℕ) (rule : ℕ → List DdNode → TwoLayers) : Type 0 where
+  pub within : (k : ℕ) (layer : List DdNode) → k < dp.vars → IsLayerWithin dp k w layer → AreWithin dp k w (rule k layer)
   pub above : (k : ℕ) (layer : List DdNode) → HaveDepth k layer → HaveDepth k (rule k layer).above
   pub next : (k : ℕ) (layer : List DdNode) → k < dp.vars → HaveDepth k layer → HaveDepth (k + 1) (rule k layer).next
 
-expands : (dp : Dp) → IsLawful dp → Expands dp (expand dp)
-expands dp laws = record {
-  within = λ k w layer low h. expand-within dp laws k w layer low h;
+expands : (dp : Dp) → IsLawful dp → (w : ℕ) → Expands dp w (expand dp)
+expands dp laws w = record {
+  within = λ k layer low h. expand-within dp laws k w layer low h;
   above = λ k layer h. expanded-above dp k layer h;
   next = λ k layer low h. expanded-next dp k layer low h;
 }
@@ -79,13 +84,40 @@ module _ (dp : Dp) (t : Option ℤ) where
       let P = λ (n : DdNode). IsTrue n.exact → length n.path ≡ k in
       each-of-all P (sifted_nodes dp d t nodes) (λ x has. each-has P nodes x h (sifted-has d nodes x has))
 
-  expands-sifted : IsLawful dp → Expands dp (λ k layer. expand_sifted dp k t layer)
-  expands-sifted laws = record {
-    within = λ k w layer low h. sifted-within laws k w (expand dp k layer) (expand-within dp laws k w layer low h);
+  expands-sifted : IsLawful dp → (w : ℕ) → Expands dp w (λ k layer. expand_sifted dp k t layer)
+  expands-sifted laws w = record {
+    within = λ k layer low h. sifted-within laws k w (expand dp k layer) (expand-within dp laws k w layer low h);
     above = λ k layer h. redirected-depth (sift_redirects dp (k + 1) t 0 (expand dp k layer).next) k (expand dp k layer).above (expanded-above dp k layer h);
     next = λ k layer low h. sifted-depth (k + 1) (k + 1) (expand dp k layer).next (expanded-next dp k layer low h);
   }
 
-pub expands-by : (dp : Dp) (strikes : Strikes) → IsLawful dp → Expands dp (expanded_by strikes dp)
-expands-by dp (AtMost t) laws = expands-sifted dp t laws
-expands-by dp Nothing laws = expands dp laws
+expands-by : (dp : Dp) (strikes : Strikes) → IsLawful dp → (w : ℕ) → Expands dp w (expanded_by strikes dp)
+expands-by dp (AtMost t) laws w = expands-sifted dp t laws w
+expands-by dp Nothing laws w = expands dp laws w
+
+-- A layer that is wider than the width is merged to it.
+
+merged-to : (dp : Dp) → IsLawful dp → (k w : ℕ) (two : TwoLayers) → 1 ≤ w → AreWithin dp k w two → AreWithin dp k w (within_width dp w (k + 1) two)
+merged-to dp laws k w two some h =
+    elim (nat_lt w (length two.next)) as (λ b. nat_lt w (length two.next) ≡ b → AreWithin dp k w (cond b (merge_rest dp (k + 1) w two) two)) [
+      | true ↦ λ e. merge-within dp laws k w two some (let wide : w < length two.next = grind (arith, nat_tests) in wide) h
+      | false ↦ λ e. h
+    ] refl
+
+expands-within : (dp : Dp) → IsLawful dp → (w : ℕ) → 1 ≤ w → (rule : ℕ → List DdNode → TwoLayers) → Expands dp w rule → Expands dp w (λ k layer. within_width dp w (k + 1) (rule k layer))
+expands-within dp laws w some rule e = record {
+  within = λ k layer low h. merged-to dp laws k w (rule k layer) some (e.within k layer low h);
+  above = λ k layer h. elim (nat_lt w (length (rule k layer).next)) as (λ b. HaveDepth k (cond b (merge_rest dp (k + 1) w (rule k layer)) (rule k layer)).above) [
+    | true ↦ redirected-depth (merge_redirects dp (k + 1) w (rule k layer).next) k (rule k layer).above (e.above k layer h)
+    | false ↦ e.above k layer h
+  ];
+  next = λ k layer low h. elim (nat_lt w (length (rule k layer).next)) as (λ b. HaveDepth (k + 1) (cond b (merge_rest dp (k + 1) w (rule k layer)) (rule k layer)).next) [
+    | true ↦ merged-depth dp (k + 1) w (k + 1) (rule k layer).next (e.next k layer low h)
+    | false ↦ e.next k layer low h
+  ];
+}
+
+pub expands-as : (dp : Dp) (making : Making) (merged : Bool) → IsLawful dp → (w : ℕ) → 1 ≤ w → Expands dp w (expanded_as making merged dp w)
+expands-as dp (By strikes) merged laws w some = expands-by dp strikes laws w
+expands-as dp (Within t) true laws w some = expands-within dp laws w some (λ k layer. expand_sifted dp k t layer) (expands-sifted dp t laws w)
+expands-as dp (Within t) false laws w some = expands-sifted dp t laws w

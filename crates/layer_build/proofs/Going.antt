@@ -315,15 +315,15 @@ expanded-rows dp i h u low narrow x n region at old d same e rooms next_rooms pu
     here : at_depth i.stack.vars i.stack.first (i.stack.last + 1) (set i.stack.layers.items at x) n i.stack.last ≡ x.nodes
     here = ap (λ (k : ℕ). at_depth vars first (last + 1) (set items k x) n last) same ∙ put-at vars first (last + 1) items x n last (omega arith) within
 
-pub expanded-space : (dp : Dp) (rule : ℕ → List DdNode → TwoLayers) → Expands dp rule → (i : Inside) → the_invariant i → IsUnderWay dp (the_view i) → i.stack.last < i.stack.vars
-    → (i.stack.first + 2 ≤ i.stack.last → length i.stack.newest.nodes ≤ i.width) → (x n : LayerView) (region : RegionView) (at : ℕ) (expansion : Room) (old d : LayerView)
+pub expanded-space : (dp : Dp) (rule : ℕ → List DdNode → TwoLayers) (i : Inside) → Expands dp i.width rule → the_invariant i → IsUnderWay dp (the_view i) → i.stack.last < i.stack.vars
+    → (i.stack.first + 2 ≤ i.stack.last → length i.stack.newest.nodes ≤ i.width) → (x n : LayerView) (region : RegionView) (at : ℕ) (expansion redirects : Room) (old d : LayerView)
     → at ≡ place_of i.stack.vars i.stack.first i.stack.last → old ≡ get_or i.stack.layers.items at d
     → map without_arcs x.nodes ≡ map without_arcs i.stack.newest.nodes
     → ((paths : ℕ → List ℕ) → shown_layer paths x.nodes ≡ (rule i.stack.last (shown_layer paths i.stack.newest.nodes)).above)
     → ((paths : ℕ → List ℕ) → shown_below paths n.nodes ≡ (rule i.stack.last (shown_layer paths i.stack.newest.nodes)).next)
-    → KeepsRoom old x → KeepsRoom i.stack.newest n → expansion ≡ i.expansion → IsHeld i.stack x n region
-    → the_invariant (record i { stack = kept_stack i.stack (with_item i.stack.layers at x) n region; expansion = expansion })
-expanded-space dp rule expands i h u low narrow x n region at expansion old d same e rest above next rooms next_rooms kept held =
+    → KeepsRoom old x → KeepsRoom i.stack.newest n → expansion ≡ i.expansion → redirects ≡ i.redirects → IsHeld i.stack x n region
+    → the_invariant (record i { stack = kept_stack i.stack (with_item i.stack.layers at x) n region; expansion = expansion; redirects = redirects })
+expanded-space dp rule i expands h u low narrow x n region at expansion redirects old d same e rest above next rooms next_rooms kept stay held =
     let ordered = h.stack.first in
     let seen = expanded-view (rule i.stack.last) i h low x n rest above next in
     let long = length-down (nodes_in i.stack) (i.prefix.items ∷ []) i.stack.first (i.stack.last - i.stack.first) in
@@ -334,7 +334,7 @@ expanded-space dp rule expands i h u low narrow x n region at expansion old d sa
       first = h.first;
       prefix_fits = h.prefix_fits;
       expands = kept ∙ room-as next_rooms.nodes_room h.expands;
-      redirects_fit = room-as next_rooms.nodes_room h.redirects_fit;
+      redirects_fit = stay ∙ room-as next_rooms.nodes_room h.redirects_fit;
       path = h.path;
       depths = subst (λ (k : ℕ). HaveDepths i.stack.first (shown_down (at_depth i.stack.vars i.stack.first (i.stack.last + 1) (set i.stack.layers.items k x) n) (i.prefix.items ∷ []) i.stack.first (i.stack.last + 1 - i.stack.first))) (sym same)
           (subst (HaveDepths i.stack.first) (sym seen)
@@ -351,26 +351,26 @@ below-length paths nodes = map-length (λ (node : NodeView). shown (path_below p
 ranks-below : (dp : Dp) (k : ℕ) (ps : List (List ℕ)) (n : LayerView) → Each (IsRanked dp k) n.nodes → ranks_in n ≡ map (λ (node : DdNode). told_of dp k node.row) (shown_below (path_in ps) n.nodes)
 ranks-below dp k ps n h = ranks-of dp k (path_in (paths_below ps n.nodes)) 0 n.nodes h ∙ ap (map (λ (node : DdNode). told_of dp k node.row)) (as-below ps n.nodes)
 
-pub expanded-seen : (rule : ℕ → List DdNode → TwoLayers) (i : Inside) → the_invariant i → i.stack.last < i.stack.vars → (x n : LayerView) (region : RegionView) (at : ℕ) (expansion : Room)
+pub expanded-seen : (rule : ℕ → List DdNode → TwoLayers) (i : Inside) → the_invariant i → i.stack.last < i.stack.vars → (x n : LayerView) (region : RegionView) (at : ℕ) (expansion redirects : Room)
     → at ≡ place_of i.stack.vars i.stack.first i.stack.last
     → map without_arcs x.nodes ≡ map without_arcs i.stack.newest.nodes
     → ((paths : ℕ → List ℕ) → shown_layer paths x.nodes ≡ (rule i.stack.last (shown_layer paths i.stack.newest.nodes)).above)
     → ((paths : ℕ → List ℕ) → shown_below paths n.nodes ≡ (rule i.stack.last (shown_layer paths i.stack.newest.nodes)).next)
     → KeepsRoom i.stack.newest n
-    → the_view (record i { stack = kept_stack i.stack (with_item i.stack.layers at x) n region; expansion = expansion })
+    → the_view (record i { stack = kept_stack i.stack (with_item i.stack.layers at x) n region; expansion = expansion; redirects = redirects })
     ≡ record (the_view i) { layers = expand_last (rule (last_depth (the_view i))) (the_view i).layers; told = ranks_in n }
-expanded-seen rule i h low x n region at expansion same rest above next next_rooms =
+expanded-seen rule i h low x n region at expansion redirects same rest above next next_rooms =
     let seen = expanded-view (rule i.stack.last) i h low x n rest above next in
     ap₂ (λ (r : ℕ) (l : List (List DdNode)). record (the_view i) { room = r; layers = l; told = ranks_in n }) next_rooms.nodes_room
     (subst (λ (k : ℕ). shown_down (at_depth i.stack.vars i.stack.first (i.stack.last + 1) (set i.stack.layers.items k x) n) (i.prefix.items ∷ []) i.stack.first (i.stack.last + 1 - i.stack.first) ≡ expand_last (rule i.stack.last) (the_view i).layers) (sym same) seen
     ∙ ap (λ (k : ℕ). expand_last (rule k) (the_view i).layers) (sym (deep i h)))
 
-pub expanded-kept : (dp : Dp) (rule : ℕ → List DdNode → TwoLayers) → Expands dp rule → (i : Inside) → the_invariant i → IsUnderWay dp (the_view i) → i.stack.last < i.stack.vars → (n : LayerView)
+pub expanded-kept : (dp : Dp) (rule : ℕ → List DdNode → TwoLayers) (i : Inside) → Expands dp i.width rule → the_invariant i → IsUnderWay dp (the_view i) → i.stack.last < i.stack.vars → (n : LayerView)
     → (i.stack.first + 2 ≤ i.stack.last → length i.stack.newest.nodes ≤ i.width)
     → ((paths : ℕ → List ℕ) → shown_below paths n.nodes ≡ (rule i.stack.last (shown_layer paths i.stack.newest.nodes)).next)
-    → Each (IsRanked dp (i.stack.last + 1)) n.nodes → Each (λ (node : NodeView). IsSome node.parent) n.nodes → length n.nodes ≤ length i.stack.newest.nodes * dp.choices i.stack.last
+    → Each (IsRanked dp (i.stack.last + 1)) n.nodes → (i.width < length n.nodes → Each (λ (node : NodeView). IsSome node.parent) n.nodes) → length n.nodes ≤ length i.stack.newest.nodes * dp.choices i.stack.last
     → IsUnderWay dp (record (the_view i) { layers = expand_last (rule (last_depth (the_view i))) (the_view i).layers; told = ranks_in n })
-expanded-kept dp rule expands i h u low n narrow next ranked unmerged few =
+expanded-kept dp rule i expands h u low n narrow next ranked unmerged few =
     let V = the_view i in
     let ps = last_paths i in
     let at = deep i h in
@@ -383,10 +383,10 @@ expanded-kept dp rule expands i h u low n narrow next ranked unmerged few =
     let candidates = fits.candidates in
     let choices = ap dp.choices at in
     let told = ranks-below dp (i.stack.last + 1) ps n ranked in
-    expanded-under-way dp rule expands V (ranks_in n) u (omega arith)
+    expanded-under-way dp rule V expands (ranks_in n) u (omega arith)
     (subst (λ (k : ℕ). ranks_in n ≡ map (λ (node : DdNode). told_of dp (k + 1) node.row) (rule (last_depth V) (last_layer V.layers)).next) (sym at)
     (subst (λ (l : List DdNode). ranks_in n ≡ map (λ (node : DdNode). told_of dp (i.stack.last + 1) node.row) l) (sym is) told))
-    (subst (Each (λ (node : DdNode). 1 ≤ length node.path)) (sym is) (have-paths (path_in ps) n.nodes unmerged))
+    (subst (λ (l : List DdNode). i.width < length l → Each (λ (node : DdNode). 1 ≤ length node.path) l) (sym is) (λ wide. have-paths (path_in ps) n.nodes (unmerged (omega arith))))
     (subst (λ (l : List DdNode). length l ≤ length (last_layer V.layers) * dp.choices (last_depth V)) (sym is)
     (subst (λ (c : ℕ). length (shown_below (path_in ps) n.nodes) ≤ c * dp.choices (last_depth V)) (sym count) (subst (λ (c : ℕ). length (shown_below (path_in ps) n.nodes) ≤ length i.stack.newest.nodes * c) (sym choices) (omega arith))))
     (subst (λ (l : List DdNode). length l ≤ i.stack.newest.nodes_room) (sym is) (omega arith))

@@ -81,20 +81,20 @@ last-of-two (x ∷ y ∷ z ∷ l) = last-of-two (y ∷ z ∷ l)
 
 -- ---- the steps
 
-pub expanded-under-way : (dp : Dp) (rule : ℕ → List DdNode → TwoLayers) → Expands dp rule → (s : SpaceView) (told : List Told) → IsUnderWay dp s → last_depth s < dp.vars
+pub expanded-under-way : (dp : Dp) (rule : ℕ → List DdNode → TwoLayers) (s : SpaceView) → Expands dp s.width rule → (told : List Told) → IsUnderWay dp s → last_depth s < dp.vars
     → told ≡ map (λ (n : DdNode). told_of dp (last_depth s + 1) n.row) (rule (last_depth s) (last_layer s.layers)).next
-    → Each (λ (n : DdNode). 1 ≤ length n.path) (rule (last_depth s) (last_layer s.layers)).next
+    → (s.width < length (rule (last_depth s) (last_layer s.layers)).next → Each (λ (n : DdNode). 1 ≤ length n.path) (rule (last_depth s) (last_layer s.layers)).next)
     → length (rule (last_depth s) (last_layer s.layers)).next ≤ length (last_layer s.layers) * dp.choices (last_depth s)
     → length (rule (last_depth s) (last_layer s.layers)).next ≤ s.room
     → IsUnderWay dp (record s { layers = expand_last (rule (last_depth s)) s.layers; told = told })
-expanded-under-way dp rule expands s told u low ranked paths few room =
+expanded-under-way dp rule s expands told u low ranked paths few room =
     let d = last_depth s in
     let here = rule d in
     let some = u.some in
     let long = length-expand here s.layers some in
     let deep : length s.prefix + (length (expand_last here s.layers) - 1) ≡ d + 1 = omega arith in
     let last = last-expand here s.layers some in
-    let both : AreWithin dp d s.width (here (last_layer s.layers)) = expands.within d s.width (last_layer s.layers) low u.within in
+    let both : AreWithin dp d s.width (here (last_layer s.layers)) = expands.within d (last_layer s.layers) low u.within in
     record {
       lawful = u.lawful;
       prepared = record { vars = u.prepared.vars; words = u.prepared.words; choices = u.prepared.choices; width = u.prepared.width; enough = u.prepared.enough; path = u.prepared.path };
@@ -106,7 +106,7 @@ expanded-under-way dp rule expands s told u low ranked paths few room =
           subst (λ (k : ℕ). AreWithin dp k s.width (last_two (expand_last here s.layers))) (sym above) (subst (AreWithin dp d s.width) (sym (two-expand here s.layers some)) both));
       told = ranked ∙ (ap (λ (k : ℕ). map (λ (n : DdNode). told_of dp k n.row) (here (last_layer s.layers)).next) (sym deep)
           ∙ ap (map (λ (n : DdNode). told_of dp (length s.prefix + (length (expand_last here s.layers) - 1)) n.row)) (sym last));
-      unmerged = λ wide. subst (Each (λ (n : DdNode). 1 ≤ length n.path)) (sym last) paths;
+      unmerged = λ wide. subst (Each (λ (n : DdNode). 1 ≤ length n.path)) (sym last) (paths (subst (λ (l : List DdNode). s.width < length l) last wide));
       few = subst (λ (l : List DdNode). length l ≤ s.room) (sym last) room;
       one = λ same. absurd (omega arith);
       second = λ same. (let at : d ≡ length s.prefix = omega arith in

@@ -10,6 +10,7 @@ pub mod Places
 pub mod Held
 pub mod Dropping
 pub mod Going
+pub mod Merged
 pub mod Changing
 pub mod Starting
 pub mod Reading

@@ -29,11 +29,11 @@ two-expanded r2 r1 [] = refl
 two-expanded r2 r1 (l ∷ []) = refl
 two-expanded r2 r1 (l ∷ n ∷ rest) = two-over r2 r1 l n rest ∙ ap (λ ls. l ∷ ls) (two-expanded r2 r1 (n ∷ rest))
 
--- rules that are the same expand in the same way
-expand-same : (f g : List DdNode → TwoLayers) → ((l : List DdNode) → f l ≡ g l) → (ls : List (List DdNode)) → expand_last f ls ≡ expand_last g ls
-expand-same f g same [] = refl
-expand-same f g same (l ∷ []) = ap (λ (two : TwoLayers). two.above ∷ two.next ∷ []) (same l)
-expand-same f g same (l ∷ m ∷ ls) = ap (λ r. l ∷ r) (expand-same f g same (m ∷ ls))
+-- rules that do the same with the last layer expand in the same way
+pub expand-alike : (f g : List DdNode → TwoLayers) (ls : List (List DdNode)) → f (last_layer ls) ≡ g (last_layer ls) → expand_last f ls ≡ expand_last g ls
+expand-alike f g [] same = refl
+expand-alike f g (l ∷ []) same = ap (λ (two : TwoLayers). two.above ∷ two.next ∷ []) same
+expand-alike f g (l ∷ m ∷ ls) same = ap (λ r. l ∷ r) (expand-alike f g (m ∷ ls) same)
 
 -- ---- pruning
 
@@ -67,7 +67,7 @@ expanded-pruned dp t s s1 new some e1 e2 =
     let ls = s.layers in
     let both : on_last_two (drop_dominated dp (k + 1)) (expand_last (expand_sifted dp k t) ls) ≡ expand_last (λ l. prune dp (k + 1) t (expand dp k l)) ls =
     two-expanded (drop_dominated dp (k + 1)) (expand_sifted dp k t) ls
-    ∙ expand-same (λ l. drop_dominated dp (k + 1) (expand_sifted dp k t l)) (λ l. prune dp (k + 1) t (expand dp k l)) (λ l. dropped-sifted dp (k + 1) t (expand dp k l)) ls in
+    ∙ expand-alike (λ l. drop_dominated dp (k + 1) (expand_sifted dp k t l)) (λ l. prune dp (k + 1) t (expand dp k l)) ls (dropped-sifted dp (k + 1) t (expand dp k (last_layer ls))) in
     (e2 ∙ ap (after_drop dp new.told) e1)
     ∙ (ap (λ n. record s { layers = on_last_two (drop_dominated dp n) (expand_last (expand_sifted dp k t) ls); told = new.told }) (deeper dp t s1.told s some)
     ∙ ap (λ (l : List (List DdNode)). record s { layers = l; told = new.told }) both)

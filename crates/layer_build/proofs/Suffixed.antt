@@ -1,5 +1,5 @@
 -- Layers that differ in suffixes only.
-use Rattle.std.proofs.Common.{◌≡◌, ◌≢◌, ℕ, zero, suc, ◌+◌, ◌-◌, ◌*◌, ◌≤◌, ℤ, List, [], ◌∷◌, map, length, slice_get, Option, Some, None, IsTrue, refl, sym, ap, ap₂, ◌∙◌, subst, arith}
+use Rattle.std.proofs.Common.{◌≡◌, ℕ, zero, suc, ◌+◌, ◌-◌, ◌*◌, ◌≤◌, ℤ, List, [], ◌∷◌, map, length, slice_get, Option, Some, None, IsTrue, refl, sym, ap, ap₂, ◌∙◌, subst, arith}
 use Rattle.dp_model.specs.Dp.{Dp}
 use Rattle.dp_model.specs.Gaps.{IsStateOf}
 use Rattle.dp_model.specs.Lists.{Each}
@@ -8,7 +8,7 @@ use Rattle.dp_laws.specs.Diagrams.Nodes.{DdNode}
 use Rattle.dp_laws.specs.Rules.Compiling.{TwoLayers}
 use Rattle.dp_laws.specs.Rules.Within.{IsBetween, IsLayerWithin, AreWithin, IsArcWithin, LeadsWithin, ReachesWithin}
 use Rattle.dp_model.proofs.Members.{Each-then}
-use Rattle.layer_nodes.specs.Nodes.{Told, told_of, NodeView, shown, shown_layer}
+use Rattle.layer_nodes.specs.Nodes.{Told, told_of, NodeView, shown_layer}
 use Rattle.layer_build.specs.Layers.{SpaceView, last_depth, last_layer}
 use Rattle.layer_build.specs.Stacked.{path_in, paths_below, shown_down, HaveDepths}
 use Rattle.layer_build.specs.UnderWay.{last_two, IsUnderWay}

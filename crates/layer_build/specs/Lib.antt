@@ -1,6 +1,7 @@
 pub mod Layers
 pub mod Stacked
 pub mod Preparing
+pub mod Within
 pub mod UnderWay
 pub mod Space
 pub mod Finding

@@ -1,16 +1,16 @@
 //! The layers of a diagram in memory.
 
-ghost use Rattle.std.specs.Prelude.{◌≡◌, ◌+◌, ◌-◌, ◌*◌, ◌<◌, ◌≤◌, ℕ, List, [], IsSome, length, map};
+ghost use Rattle.std.specs.Prelude.{◌≡◌, ◌+◌, ◌-◌, ◌*◌, ◌<◌, ◌≤◌, ℕ, true, false, List, [], IsSome, length, map};
 ghost use Rattle.dp_model.specs.Lists.{Each};
 ghost use Rattle.layer_candidates.specs.HeldRows.{AreLive, HasExchanged};
 ghost use Rattle.layer_nodes.specs.Nodes.{shown_layer, shown_below, without_arcs};
-ghost use Rattle.layer_nodes.specs.Sifting.{expanded_by};
 ghost use Rattle.layer_nodes.specs.Steps.{IsParent, IsRanked, KeepsRoom};
 ghost use Rattle.layer_nodes.specs.Holding.{AreHeld, places_of};
 ghost use Rattle.layer_build.specs.Stacked.{layer_in, place_of, place_above, places_above, HasDepth, HasAllDepths};
+ghost use Rattle.layer_build.specs.Within.{expanded_as, MayMerge};
 
 use dp_model::DpModel;
-use layer_nodes::{Expansion, Layer, Strikes, expand};
+use layer_nodes::{Expansion, Layer, Redirects, Strikes, expand, expand_merged};
 use row_region::Region;
 
 /// A layer for each depth, then the one just below the first, and an empty one, which stands above the first; and the last
@@ -74,17 +74,27 @@ pub(crate) fn drop_above(stack: &mut Stack, from: usize)
     }
 }
 
-/// The last layer, at depth `k`, is kept at its place above and expanded into the next one, of which the nodes are left out that
-/// are struck.
+/// How the next layer is made.
+#[derive(Clone, Copy, Debug)]
+pub(crate) enum Making {
+    /// Without the nodes that are struck.
+    By(Strikes),
+    /// Without the nodes that the threshold strikes, and merged to the width at once where that is possible.
+    Within(Option<i64>),
+}
+
+/// The last layer, at depth `k`, is kept at its place above and expanded into the next one. Answers whether that was merged.
 pub(crate) fn expand_newest<M: DpModel>(
     model: &M,
     k: usize,
-    strikes: Strikes,
+    making: Making,
+    width: usize,
     region: &mut Region,
     above: &mut Layer,
     newest: &mut Layer,
     expansion: &mut Expansion,
-)
+    redirects: &mut Redirects,
+) -> bool
     requires layer { k < (M.meaning (M.numbers model.now)).vars }
     requires above_words { above.old.words ≡ (M.meaning (M.numbers model.now)).words }
     requires next_words { newest.old.words ≡ (M.meaning (M.numbers model.now)).words }
@@ -97,10 +107,14 @@ pub(crate) fn expand_newest<M: DpModel>(
     requires nodes_room { length newest.old.nodes * (M.meaning (M.numbers model.now)).choices k ≤ newest.old.nodes_room }
     requires row_words { expansion.old.words ≡ (M.meaning (M.numbers model.now)).words }
     requires room { length newest.old.nodes * (M.meaning (M.numbers model.now)).choices k ≤ expansion.old.most }
-    ensures above { (paths : ℕ → List ℕ) → shown_layer paths above.new.nodes ≡ (expanded_by strikes (M.meaning (M.numbers model.now)) k (shown_layer paths newest.old.nodes)).above }
-    ensures next { (paths : ℕ → List ℕ) → shown_below paths newest.new.nodes ≡ (expanded_by strikes (M.meaning (M.numbers model.now)) k (shown_layer paths newest.old.nodes)).next }
+    requires positive { 1 ≤ width }
+    requires redirects_words { redirects.old.words ≡ (M.meaning (M.numbers model.now)).words }
+    requires redirects_room { length newest.old.nodes * (M.meaning (M.numbers model.now)).choices k ≤ redirects.old.most }
+    ensures above { (paths : ℕ → List ℕ) → shown_layer paths above.new.nodes ≡ (expanded_as making result (M.meaning (M.numbers model.now)) width k (shown_layer paths newest.old.nodes)).above }
+    ensures next { (paths : ℕ → List ℕ) → shown_below paths newest.new.nodes ≡ (expanded_as making result (M.meaning (M.numbers model.now)) width k (shown_layer paths newest.old.nodes)).next }
+    ensures merged { result ≡ true → (paths : ℕ → List ℕ) → MayMerge making (M.meaning (M.numbers model.now)) width k (shown_layer paths newest.old.nodes) }
     ensures ranked { Each (IsRanked (M.meaning (M.numbers model.now)) (k + 1)) newest.new.nodes }
-    ensures unmerged { Each (λ n. IsSome n.parent) newest.new.nodes }
+    ensures unmerged { result ≡ false → Each (λ n. IsSome n.parent) newest.new.nodes }
     ensures few { length newest.new.nodes ≤ length newest.old.nodes * (M.meaning (M.numbers model.now)).choices k }
     ensures rest { map without_arcs above.new.nodes ≡ map without_arcs newest.old.nodes }
     ensures places { places_of above.new.nodes ≡ places_of newest.old.nodes }
@@ -110,7 +124,16 @@ pub(crate) fn expand_newest<M: DpModel>(
     ensures above_rooms { KeepsRoom above.old above.new }
     ensures next_rooms { KeepsRoom newest.old newest.new }
     ensures expansion { expansion.new ≡ expansion.old }
+    ensures redirects { redirects.new ≡ redirects.old }
 {
     above.keep(newest, region);
-    expand(model, k, strikes, region, above, newest, expansion);
+    match making {
+        Making::By(strikes) => {
+            expand(model, k, strikes, region, above, newest, expansion);
+            false
+        }
+        Making::Within(threshold) => expand_merged(
+            model, k, threshold, width, region, above, newest, expansion, redirects,
+        ),
+    }
 }

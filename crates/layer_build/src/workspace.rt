@@ -1,4 +1,4 @@
-ghost use Rattle.std.specs.Prelude.{◌≡◌, ◌+◌, ◌-◌, ◌*◌, ◌<◌, ◌≤◌, ℕ, ℤ, List, [], ◌∷◌, false, Option, None, IfOk, is_some, length, map, vec_capacity};
+ghost use Rattle.std.specs.Prelude.{◌≡◌, ◌+◌, ◌-◌, ◌*◌, ◌<◌, ◌≤◌, nat_lt, ℕ, ℤ, List, [], ◌∷◌, true, false, cond, Option, None, IfOk, is_some, length, map, vec_capacity};
 ghost use Rattle.dp_model.specs.Dp.{Dp};
 ghost use Rattle.dp_model.specs.Lists.{Each};
 ghost use Rattle.dp_model.specs.Prefixes.{IsPrefix, state_of, value_of};
@@ -7,15 +7,16 @@ ghost use Rattle.dp_model.specs.Subproblem.{IsOwn};
 ghost use Rattle.dp_laws.specs.Restricted.Beams.{beam, wide};
 ghost use Rattle.dp_laws.specs.Rules.Compiling.{expand, prune, keep_first, merge_rest, start_layer};
 ghost use Rattle.dp_laws.specs.Rules.Pruning.{is_struck};
-ghost use Rattle.layer_nodes.specs.Sifting.{expand_sifted, expanded_by};
+ghost use Rattle.layer_nodes.specs.Sifting.{expand_sifted};
 ghost use Rattle.layer_nodes.specs.Striking.{drop_dominated};
 ghost use Rattle.layer_candidates.specs.Beaming.{IsFirst};
 ghost use Rattle.layer_build.specs.Layers.{IsWidth, IsPreparedFor, last_depth, last_layer, expand_last, on_last_two, reduced_first};
 ghost use Rattle.layer_build.specs.Space.{IsSpacePrepared};
 ghost use Rattle.layer_build.specs.UnderWay.{IsUnderWay};
+ghost use Rattle.layer_build.specs.Within.{expanded_as, within_width, MayMerge};
 
 use crate::preparing::{choices_of, prepare_stack, room_for};
-use crate::stack::{Stack, drop_above, expand_newest, place_above, place_of};
+use crate::stack::{Making, Stack, drop_above, expand_newest, place_above, place_of};
 use crate::width::greatest_width;
 use dp_model::{DpModel, MOST_CHOICES, OutOfMemory, Sub};
 use layer_candidates::{Beam, Beamed, Limits, Start};
@@ -145,28 +146,32 @@ impl Workspace {
         self.held = first;
     }
 
-    /// Expands the last layer: of the new last layer the nodes are left out that are struck.
-    fn expand_by<M: DpModel>(&mut self, model: &M, strikes: Strikes)
+    /// Expands the last layer into the next one. Answers whether that was merged.
+    fn expand_by<M: DpModel>(&mut self, model: &M, making: Making) -> bool
         requires under_way { IsUnderWay (M.meaning (M.numbers model.now)) self.old }
         requires below { last_depth self.old < (M.meaning (M.numbers model.now)).vars }
         requires narrow { length self.old.prefix + 2 ≤ last_depth self.old → length (last_layer self.old.layers) ≤ self.old.width }
         ensures layers { self.new ≡ record self.old {
-          layers = expand_last (expanded_by strikes (M.meaning (M.numbers model.now)) (last_depth self.old)) self.old.layers;
+          layers = expand_last (expanded_as making result (M.meaning (M.numbers model.now)) self.old.width (last_depth self.old)) self.old.layers;
           told = self.new.told;
         } }
+        ensures merged { result ≡ true → MayMerge making (M.meaning (M.numbers model.now)) self.old.width (last_depth self.old) (last_layer self.old.layers) }
         ensures under_way { IsUnderWay (M.meaning (M.numbers model.now)) self.new }
     {
         let at = place_of(self.stack.vars, self.stack.first, self.stack.last);
-        expand_newest(
+        let merged = expand_newest(
             model,
             self.stack.last,
-            strikes,
+            making,
+            self.width,
             &mut self.stack.region,
             &mut self.stack.layers[at],
             &mut self.stack.newest,
             &mut self.expansion,
+            &mut self.redirects,
         );
         self.stack.last += 1;
+        merged
     }
 
     /// Extends each node of the last layer by each allowed decision. Of each state the best child, in the reduction order, is a
@@ -181,7 +186,7 @@ impl Workspace {
         } }
         ensures under_way { IsUnderWay (M.meaning (M.numbers model.now)) self.new }
     {
-        self.expand_by(model, Strikes::Nothing);
+        self.expand_by(model, Making::By(Strikes::Nothing));
     }
 
     /// Expands the last layer as `expand_layer` does, but of the new last layer those nodes are left out that are struck by their
@@ -196,7 +201,7 @@ impl Workspace {
         } }
         ensures under_way { IsUnderWay (M.meaning (M.numbers model.now)) self.new }
     {
-        self.expand_by(model, Strikes::AtMost(threshold));
+        self.expand_by(model, Making::By(Strikes::AtMost(threshold)));
     }
 
     /// Takes out the nodes of the last layer that are struck by their rough bound, or that one of the first 16 exact ones that
@@ -302,6 +307,50 @@ impl Workspace {
             &mut self.redirects,
         );
         self.first_reduced = reduced_first(self.first_reduced, self.stack.last);
+    }
+
+    /// Merges the last nodes of the last layer where it is wider than the width.
+    fn merge_wide<M: DpModel>(&mut self, model: &M)
+        requires { IsUnderWay (M.meaning (M.numbers model.now)) self.old }
+        ensures layers { self.new ≡ record self.old {
+          layers = on_last_two (within_width (M.meaning (M.numbers model.now)) self.old.width (last_depth self.old)) self.old.layers;
+          told = self.new.told;
+          first_reduced = cond (nat_lt self.old.width (length (last_layer self.old.layers))) (reduced_first self.old.first_reduced (last_depth self.old)) self.old.first_reduced;
+        } }
+        ensures under_way { IsUnderWay (M.meaning (M.numbers model.now)) self.new }
+    {
+        if self.width < self.stack.newest.len() {
+            self.merge_rest(model);
+        }
+    }
+
+    /// The last layer counts as a reduced one.
+    fn count_reduced(&mut self)
+        ensures seen { self.new ≡ record self.old { first_reduced = reduced_first self.old.first_reduced (last_depth self.old) } }
+        ensures under_way { (dp : Dp) → IsUnderWay dp self.old → IsUnderWay dp self.new }
+    {
+        self.first_reduced = reduced_first(self.first_reduced, self.stack.last);
+    }
+
+    /// Expands the last layer as `expand_pruned` does, and merges the new one as `merge_rest` does where it has more nodes than the
+    /// width. Where it can, it does so before the nodes that are merged are put in order.
+    pub fn expand_within<M: DpModel>(&mut self, model: &M, threshold: Option<i64>)
+        requires under_way { IsUnderWay (M.meaning (M.numbers model.now)) self.old }
+        requires below { last_depth self.old < (M.meaning (M.numbers model.now)).vars }
+        requires narrow { length self.old.prefix + 2 ≤ last_depth self.old → length (last_layer self.old.layers) ≤ self.old.width }
+        ensures layers { self.new ≡ record self.old {
+          layers = expand_last (λ layer. within_width (M.meaning (M.numbers model.now)) self.old.width (last_depth self.old + 1) (prune (M.meaning (M.numbers model.now)) (last_depth self.old + 1) threshold (expand (M.meaning (M.numbers model.now)) (last_depth self.old) layer))) self.old.layers;
+          told = self.new.told;
+          first_reduced = cond (nat_lt self.old.width (length (prune (M.meaning (M.numbers model.now)) (last_depth self.old + 1) threshold (expand (M.meaning (M.numbers model.now)) (last_depth self.old) (last_layer self.old.layers))).next)) (reduced_first self.old.first_reduced (last_depth self.old + 1)) self.old.first_reduced;
+        } }
+        ensures under_way { IsUnderWay (M.meaning (M.numbers model.now)) self.new }
+    {
+        if self.expand_by(model, Making::Within(threshold)) {
+            self.count_reduced();
+            return;
+        }
+        self.drop_dominated(model);
+        self.merge_wide(model);
     }
 
     /// The rows above the last layer are held no longer.
