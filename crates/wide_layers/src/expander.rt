@@ -1,10 +1,11 @@
 //! How a layer is expanded.
 
-ghost use Rattle.std.specs.Prelude.{◌≡◌, ◌+◌, ◌<◌, ◌≤◌, length, take};
+ghost use Rattle.std.specs.Prelude.{◌≡◌, ◌+◌, ◌<◌, ◌≤◌, nat_lt, cond, length, take};
 ghost use Rattle.dp_model.specs.declared.limits.TheConstants.{MOST_LAYER_PARTS};
 ghost use Rattle.dp_laws.specs.Rules.Compiling.{expand, prune};
-ghost use Rattle.layer_build.specs.Layers.{last_depth, last_layer, expand_last};
+ghost use Rattle.layer_build.specs.Layers.{last_depth, last_layer, expand_last, reduced_first};
 ghost use Rattle.layer_build.specs.UnderWay.{IsUnderWay};
+ghost use Rattle.layer_build.specs.Within.{within_width};
 ghost use Rattle.wide_layers.specs.Pieces.{AreRight, AllRight};
 ghost use Rattle.wide_layers.specs.Ready.{MayMake};
 
@@ -178,6 +179,34 @@ impl<'r, R: Threads + Sync> Expander<'r, R> {
                 let count = parallel.make(space, model);
                 let recalled = Recalled::new(model, depth, &parallel.pieces[..count]);
                 space.expand_pruned(&recalled, threshold);
+            }
+        }
+    }
+
+    /// Expands the last layer into the next one, prunes that and merges it to the width, as `Workspace::expand_within` does.
+    pub fn expand_within<M: DpModel>(
+        &mut self,
+        space: &mut Workspace,
+        model: &M,
+        threshold: Option<i64>,
+    )
+        requires under_way { IsUnderWay (M.meaning (M.numbers model.now)) space.old }
+        requires below { last_depth space.old < (M.meaning (M.numbers model.now)).vars }
+        requires narrow { length space.old.prefix + 2 ≤ last_depth space.old → length (last_layer space.old.layers) ≤ space.old.width }
+        ensures layers { space.new ≡ record space.old {
+          layers = expand_last (λ layer. within_width (M.meaning (M.numbers model.now)) space.old.width (last_depth space.old + 1) (prune (M.meaning (M.numbers model.now)) (last_depth space.old + 1) threshold (expand (M.meaning (M.numbers model.now)) (last_depth space.old) layer))) space.old.layers;
+          told = space.new.told;
+          first_reduced = cond (nat_lt space.old.width (length (prune (M.meaning (M.numbers model.now)) (last_depth space.old + 1) threshold (expand (M.meaning (M.numbers model.now)) (last_depth space.old) (last_layer space.old.layers))).next)) (reduced_first space.old.first_reduced (last_depth space.old + 1)) space.old.first_reduced;
+        } }
+        ensures under_way { IsUnderWay (M.meaning (M.numbers model.now)) space.new }
+    {
+        match self {
+            Expander::Plain => space.expand_within(model, threshold),
+            Expander::Parallel(parallel) => {
+                let depth = space.last_depth();
+                let count = parallel.make(space, model);
+                let recalled = Recalled::new(model, depth, &parallel.pieces[..count]);
+                space.expand_within(&recalled, threshold);
             }
         }
     }

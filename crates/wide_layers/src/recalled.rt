@@ -142,4 +142,8 @@ impl<'p, M: DpModel> DpModel for Recalled<'p, M> {
     fn next_choice(&self, k: usize, s: &[i64], from: u32) -> u32 {
         self.model.next_choice(k, s, from)
     }
+
+    fn merges_in_any_order(&self) -> bool {
+        self.model.merges_in_any_order()
+    }
 }
