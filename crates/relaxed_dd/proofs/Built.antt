@@ -1,15 +1,14 @@
 -- Layers that are built one after another.
-use Rattle.std.proofs.Common.{◌≡◌, ℕ, zero, suc, ◌+◌, ◌-◌, ◌<◌, ◌≤◌, Bool, true, false, cond, ℤ, List, length, Option, Some, None, IsTrue, refl, sym, ◌∙◌, ap, subst, arith}
+use Rattle.std.proofs.Common.{◌≡◌, ℕ, zero, suc, ◌+◌, ◌-◌, ◌<◌, ◌≤◌, nat_lt, Bool, true, false, cond, ◌&&◌, ℤ, List, length, Option, Some, None, IsTrue, refl, sym, ◌∙◌, ap, subst, arith}
 use Rattle.dp_model.specs.Dp.{Dp}
 use Rattle.dp_model.specs.Reached.{reached}
 use Rattle.dp_laws.specs.Diagrams.Nodes.{DdNode}
 use Rattle.dp_laws.specs.Restricted.Beam.{is_reduced}
-use Rattle.dp_laws.specs.Rules.Compiling.{TwoLayers, expand, prune, is_wide, reduced, built, compiled, first_reduced_below, start_layer}
+use Rattle.dp_laws.specs.Rules.Compiling.{TwoLayers, expand, prune, is_wide, built, compiled, merge_rest, first_reduced_below, start_layer}
 use Rattle.dp_laws.proofs.Rules.Built.{built-narrow}
-use Rattle.layer_build.specs.Layers.{SpaceView, last_depth, last_layer, expand_last, on_last_two, reduced_first}
+use Rattle.layer_build.specs.Layers.{SpaceView, last_depth, last_layer, expand_last, reduced_first}
 use Rattle.layer_build.specs.UnderWay.{IsUnderWay}
-use Rattle.layer_build.proofs.Pruning.{two-expanded}
-use Rattle.relaxed_dd.specs.Building.{HasReduced, HasBuilt, HasCompiled, IsStarted, with_last, with_next, compiled_from}
+use Rattle.relaxed_dd.specs.Building.{HasBuilt, HasCompiled, IsStarted, with_next, compiled_from}
 use Rattle.relaxed_dd.proofs.Lasts.{length-expand, last-expand, with_rest, rest-expand, rest-none}
 use Rattle.layer_nodes.specs.Nodes.{Told}
 
@@ -108,41 +107,25 @@ builds-all dp t start s h =
       under_way = h.under_way;
     }
 
--- a layer that is expanded, pruned and reduced is built
+-- a layer that may be reduced is built within the width, and another one is expanded and pruned
 
-abbrev pub after_pruning : Dp → Option ℤ → List Told → SpaceView → SpaceView
-after_pruning dp t told s = record s { layers = expand_last (λ l. prune dp (last_depth s + 1) t (expand dp (last_depth s) l)) s.layers; told = told }
+-- the next layer by a test whether it may be reduced
+abbrev built_if : Bool → Dp → ℕ → Option ℤ → ℕ → List DdNode → TwoLayers
+built_if b dp w t k layer =
+    let two = prune dp (k + 1) t (expand dp k layer) in
+    cond (b && nat_lt w (length two.next)) (merge_rest dp (k + 1) w two) two
 
-one-built : (dp : Dp) (t : Option ℤ) (s new : SpaceView) (told : List Told) → 0 < length s.layers → HasReduced dp (after_pruning dp t told s) new → HasBuilt dp t s new
-one-built dp t s new told some h =
-    let first = length s.prefix in
-    let w = s.width in
-    let k = last_depth s in
-    let ls = s.layers in
-    let rule : List DdNode → TwoLayers = λ l. prune dp (k + 1) t (expand dp k l) in
-    let pruned = after_pruning dp t told s in
-    let long = length-expand rule ls some in
-    let deep : last_depth pruned ≡ k + 1 = omega arith in
-    let layers : on_last_two (reduced dp first w (last_depth pruned)) pruned.layers ≡ expand_last (built dp first w t k) ls =
-    ap (λ n. on_last_two (reduced dp first w n) pruned.layers) deep ∙ two-expanded (reduced dp first w (k + 1)) rule ls in
-    let last : last_layer pruned.layers ≡ (rule (last_layer ls)).next = last-expand rule ls some in
-    let least : with_last dp pruned ≡ with_next dp t s =
-    ap (λ n. cond (is_wide dp first w n (last_layer pruned.layers)) (reduced_first s.first_reduced n) s.first_reduced) deep
-    ∙ ap (λ l. cond (is_wide dp first w (k + 1) l) (reduced_first s.first_reduced (k + 1)) s.first_reduced) last in
-    record {
-      space = h.space ∙ (ap (λ ls. record s { layers = ls; told = new.told; first_reduced = with_last dp pruned }) layers ∙ ap (λ (o : Option ℕ). record s { layers = expand_last (built dp first w t k) ls; told = new.told; first_reduced = o }) least);
-      under_way = h.under_way;
-    }
+-- the workspace with its next layer built by such a test
+abbrev after_test : Bool → Dp → Option ℤ → List Told → SpaceView → SpaceView
+after_test b dp t told s = record s {
+  layers = expand_last (built_if b dp s.width t (last_depth s)) s.layers;
+  told = told;
+  first_reduced = cond (b && nat_lt s.width (length (prune dp (last_depth s + 1) t (expand dp (last_depth s) (last_layer s.layers))).next)) (reduced_first s.first_reduced (last_depth s + 1)) s.first_reduced;
+}
 
-pub builds-one : (dp : Dp) (t : Option ℤ) (s pruned new : SpaceView) → 0 < length s.layers → pruned ≡ after_pruning dp t pruned.told s → HasReduced dp pruned new → HasBuilt dp t s new
-builds-one dp t s pruned new some e h = one-built dp t s new pruned.told some (subst (λ v. HasReduced dp v new) e h)
-
--- the expanded layers are one more
-pub some-pruned : (dp : Dp) (t : Option ℤ) (s pruned : SpaceView) → 0 < length s.layers → pruned ≡ after_pruning dp t pruned.told s → 0 < length pruned.layers
-some-pruned dp t s pruned some e =
-    let a = ap (λ (v : SpaceView). length v.layers) e in
-    let b = length-expand (λ l. prune dp (last_depth s + 1) t (expand dp (last_depth s) l)) s.layers some in
-    omega arith
+-- a layer that is built by the right test is built
+pub built-by : (dp : Dp) (t : Option ℤ) (s new : SpaceView) (b : Bool) → is_reduced dp (length s.prefix) (last_depth s + 1) ≡ b → new ≡ after_test b dp t new.told s → IsUnderWay dp new → HasBuilt dp t s new
+built-by dp t s new b test e u = record { space = e ∙ ap (λ b. after_test b dp t new.told s) (sym test); under_way = u }
 
 -- what the next layer needs
 pub record MayBuild (dp : Dp) (s : SpaceView) : Type 0 where

@@ -1,10 +1,9 @@
 -- The last layers of a list of layers.
-use Rattle.std.proofs.Common.{◌≡◌, ℕ, zero, suc, ◌+◌, ◌-◌, ◌<◌, true, false, cond, ℤ, List, [], ◌∷◌, length, slice_get, Option, unwrap_or, refl, sym, ◌∙◌, ap, arith}
+use Rattle.std.proofs.Common.{◌≡◌, ℕ, zero, suc, ◌+◌, ◌-◌, ◌<◌, ℤ, List, [], ◌∷◌, length, slice_get, Option, unwrap_or, refl, sym, ◌∙◌, ap, arith}
 use Rattle.dp_model.specs.Dp.{Dp}
 use Rattle.dp_laws.specs.Diagrams.Nodes.{DdNode}
-use Rattle.dp_laws.specs.Rules.Compiling.{TwoLayers, merge_rest, is_wide, reduced, built, compiled}
-use Rattle.layer_build.specs.Layers.{last_layer, expand_last, on_last_two}
-use Rattle.layer_build.proofs.Pruning.{two-same}
+use Rattle.dp_laws.specs.Rules.Compiling.{TwoLayers, built, compiled}
+use Rattle.layer_build.specs.Layers.{last_layer, expand_last}
 
 -- the layer at a place
 abbrev pub nth : List (List DdNode) → ℕ → List DdNode
@@ -24,24 +23,6 @@ pub last-expand : (rule : List DdNode → TwoLayers) (ls : List (List DdNode)) �
 last-expand rule [] some = absurd (omega arith)
 last-expand rule (l ∷ []) some = refl
 last-expand rule (l ∷ n ∷ rest) some = last-over rule l n rest ∙ last-expand rule (n ∷ rest) (omega arith)
-
-two-as-is : (ls : List (List DdNode)) → on_last_two (λ two. two) ls ≡ ls
-two-as-is [] = refl
-two-as-is (l ∷ []) = refl
-two-as-is (l ∷ n ∷ []) = refl
-two-as-is (l ∷ n ∷ m ∷ rest) = ap (λ ls. l ∷ ls) (two-as-is (n ∷ m ∷ rest))
-
--- the last layer is reduced where it has to be
-
-pub reduced-wide : (dp : Dp) (first w k : ℕ) (ls : List (List DdNode)) → is_wide dp first w k (last_layer ls) ≡ true → on_last_two (merge_rest dp k w) ls ≡ on_last_two (reduced dp first w k) ls
-reduced-wide dp first w k ls wide = two-same (merge_rest dp k w) (reduced dp first w k) ls (λ above.
-    let two : TwoLayers = record { above = above; next = last_layer ls } in
-    sym (ap (λ b. cond b (merge_rest dp k w two) two) wide))
-
-pub reduced-narrow : (dp : Dp) (first w k : ℕ) (ls : List (List DdNode)) → is_wide dp first w k (last_layer ls) ≡ false → ls ≡ on_last_two (reduced dp first w k) ls
-reduced-narrow dp first w k ls narrow = sym (two-as-is ls) ∙ two-same (λ two. two) (reduced dp first w k) ls (λ above.
-    let two : TwoLayers = record { above = above; next = last_layer ls } in
-    sym (ap (λ b. cond b (merge_rest dp k w two) two) narrow))
 
 -- the layers, of which the last is replaced by what is compiled from it
 
@@ -71,8 +52,3 @@ last-at (l ∷ []) some = refl
 last-at (l ∷ n ∷ rest) some =
     let at : length (l ∷ n ∷ rest) - 1 ≡ suc (length (n ∷ rest) - 1) = omega arith in
     ap (nth (l ∷ n ∷ rest)) at ∙ last-at (n ∷ rest) (omega arith)
-
-pub last-at-depth : (first : ℕ) (ls : List (List DdNode)) (depth : ℕ) → 0 < length ls → depth ≡ first + (length ls - 1) → nth ls (depth - first) ≡ last_layer ls
-last-at-depth first ls depth some e =
-    let at : depth - first ≡ length ls - 1 = omega arith in
-    ap (nth ls) at ∙ last-at ls some

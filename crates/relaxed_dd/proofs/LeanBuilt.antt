@@ -1,7 +1,7 @@
 -- Layers that are built while the rows of few of them are held.
-use Rattle.std.proofs.Common.{◌≡◌, ℕ, ◌+◌, ◌-◌, ◌<◌, ◌≤◌, true, false, cond, ◌&&◌, ℤ, List, length, Option, ◌⊎◌, inl, inr, sym, ◌∙◌, ap, ap₂, subst, arith}
+use Rattle.std.proofs.Common.{◌≡◌, ℕ, ◌+◌, ◌-◌, ◌<◌, ◌≤◌, Bool, true, false, not, cond, ◌&&◌, ℤ, List, length, Option, None, Some, ◌⊎◌, inl, inr, refl, sym, ◌∙◌, ap, ap₂, subst, arith}
 use Rattle.std.proofs.lemmas.List.{length-map}
-use Rattle.std.specs.Prelude.{is_none}
+use Rattle.std.specs.Prelude.{is_none, is_some}
 use Rattle.dp_model.specs.Dp.{Dp}
 use Rattle.dp_model.specs.Gaps.{IsStateOf}
 use Rattle.dp_model.specs.Laws.{IsLawful}
@@ -9,32 +9,30 @@ use Rattle.dp_model.specs.Lists.{Each}
 use Rattle.dp_model.specs.Subproblem.{Subproblem, IsOwn}
 use Rattle.dp_model.proofs.Members.{Each-then}
 use Rattle.dp_laws.specs.Diagrams.Nodes.{DdNode}
-use Rattle.dp_laws.specs.Rules.Compiling.{TwoLayers, expand, prune, is_wide, built, with_suffixes}
-use Rattle.layer_build.specs.Layers.{SpaceView, IsPreparedFor, diagram_of, last_depth, last_layer, layer_at, expand_last}
+use Rattle.dp_laws.specs.Rules.Compiling.{expand, prune, is_wide, built, with_suffixes}
+use Rattle.layer_build.specs.Layers.{SpaceView, IsPreparedFor, diagram_of, last_depth, last_layer, layer_at, expand_last, reduced_first}
 use Rattle.layer_build.specs.UnderWay.{IsUnderWay, last_two}
 use Rattle.layer_build.proofs.Dropping.{dropped-under-way}
-use Rattle.relaxed_dd.specs.Building.{HasReduced, HasBuilt, IsStarted, with_next}
+use Rattle.relaxed_dd.specs.Building.{HasBuilt, IsStarted, with_next}
 use Rattle.relaxed_dd.specs.Cut.{CutView, HasCutRoom, AreCutOf, rows_of}
-use Rattle.relaxed_dd.specs.Lean.{is_first_wide, rows_above, cut_at, MayCopy, HoldsCut, HasBuiltLean, HasCompiledLean, IsMadeLean}
-use Rattle.relaxed_dd.proofs.Built.{IsBuiltTo, after_pruning, starts, builds-further, builds-all, builds-one}
-use Rattle.relaxed_dd.proofs.Lasts.{length-expand, last-expand}
-use Rattle.relaxed_dd.proofs.LeanRows.{pruned-stays, built-stays, rows-above-new, suffix-rows, two-at, layers_so_far, cut-grows}
+use Rattle.relaxed_dd.specs.Lean.{rows_above, cut_at, MayCopy, HoldsCut, HasBuiltLean, HasCompiledLean, IsMadeLean}
+use Rattle.relaxed_dd.proofs.Built.{IsBuiltTo, starts, builds-further, builds-all}
+use Rattle.relaxed_dd.proofs.Lasts.{length-expand}
+use Rattle.relaxed_dd.proofs.LeanRows.{built-stays, rows-above-new, suffix-rows, two-at, layers_so_far, cut-grows}
 use Rattle.relaxed_dd.proofs.Made.{MaySuffix, begun, may-suffix, is-made}
 
 -- ---- one layer
 
--- the expanded and pruned layers
-abbrev rule_of : Dp → Option ℤ → SpaceView → List DdNode → TwoLayers
-rule_of dp t s l = prune dp (last_depth s + 1) t (expand dp (last_depth s) l)
-
-deeper : (dp : Dp) (t : Option ℤ) (s mid : SpaceView) → 0 < length s.layers → mid ≡ after_pruning dp t mid.told s → last_depth mid ≡ last_depth s + 1
-deeper dp t s mid some e = ap last_depth e ∙ (let long = length-expand (rule_of dp t s) s.layers some in omega arith)
+deeper : (dp : Dp) (t : Option ℤ) (s new : SpaceView) → 0 < length s.layers → HasBuilt dp t s new → last_depth new ≡ last_depth s + 1
+deeper dp t s new some n = ap last_depth n.space ∙ (let long = length-expand (built dp (length s.prefix) s.width t (last_depth s)) s.layers some in omega arith)
 
 -- the layer that was the last one has its rows
-above-rows : (dp : Dp) (t : Option ℤ) (s mid : SpaceView) → 0 < length s.layers → mid ≡ after_pruning dp t mid.told s → rows_above mid ≡ rows_of (last_layer s.layers)
-above-rows dp t s mid some e =
-    let long = length-expand (rule_of dp t s) s.layers some in
-    ap rows_above e ∙ rows-above-new (rule_of dp t s) (pruned-stays dp t (last_depth s)) s.layers (last_depth (after_pruning dp t mid.told s) - 1 - length s.prefix) some (omega arith)
+above-rows : (dp : Dp) (t : Option ℤ) (s new : SpaceView) → 0 < length s.layers → HasBuilt dp t s new → rows_above new ≡ rows_of (last_layer s.layers)
+above-rows dp t s new some n =
+    let rule = built dp (length s.prefix) s.width t (last_depth s) in
+    let long = length-expand rule s.layers some in
+    let at : length s.prefix + (length (expand_last rule s.layers) - 1) - 1 - length s.prefix ≡ length s.layers - 1 = omega arith in
+    ap rows_above n.space ∙ rows-above-new rule (built-stays dp (length s.prefix) s.width t (last_depth s)) s.layers (length s.prefix + (length (expand_last rule s.layers) - 1) - 1 - length s.prefix) some at
 
 -- a layer above the last one has no more nodes than there is room for
 few-above : (dp : Dp) (s : SpaceView) (c : CutView) → last_depth s < dp.vars → (length s.prefix + 2 ≤ last_depth s → length (last_layer s.layers) ≤ s.width) → HasCutRoom dp s.width c → IsUnderWay dp s → length (last_layer s.layers) ≤ c.room
@@ -51,16 +49,17 @@ few-above dp s c low narrow room u =
     ]
 
 pub may-copy : (dp : Dp) (t : Option ℤ) (s mid : SpaceView) (c : CutView) → 0 < length s.layers → last_depth s < dp.vars → (length s.prefix + 2 ≤ last_depth s → length (last_layer s.layers) ≤ s.width) → s.held ≤ last_depth s → HasCutRoom dp s.width c
-    → IsUnderWay dp s → IsUnderWay dp mid → mid ≡ after_pruning dp t mid.told s → MayCopy mid c
-may-copy dp t s mid c some low narrow held room u um e =
-    let deep = deeper dp t s mid some e in
-    let prefix : length mid.prefix ≡ length s.prefix = ap (λ (v : SpaceView). length v.prefix) e in
-    let holds : mid.held ≡ s.held = ap (λ (v : SpaceView). v.held) e in
+    → IsUnderWay dp s → HasBuilt dp t s mid → MayCopy mid c
+may-copy dp t s mid c some low narrow held room u n =
+    let um = n.under_way in
+    let deep = deeper dp t s mid some n in
+    let prefix : length mid.prefix ≡ length s.prefix = ap (λ (v : SpaceView). length v.prefix) n.space in
+    let holds : mid.held ≡ s.held = ap (λ (v : SpaceView). v.held) n.space in
     let layer = layer_at mid (last_depth mid - 1) in
     let above : length mid.prefix < last_depth mid = omega arith in
     let at : layer ≡ (last_two mid.layers).above = two-at mid.layers (last_depth mid - 1 - length mid.prefix) (omega arith) (omega arith) in
     let states : Each (λ (node : DdNode). IsStateOf dp (last_depth mid - 1) node.row) layer = subst (λ l. Each (λ (node : DdNode). IsStateOf dp (last_depth mid - 1) node.row) l) (sym at) (um.two above).above.states in
-    let rows = above-rows dp t s mid some e in
+    let rows = above-rows dp t s mid some n in
     let long : length layer ≡ length (last_layer s.layers) = sym (length-map layer (λ (node : DdNode). node.row)) ∙ (ap (λ (l : List (List ℤ)). length l) rows ∙ length-map (last_layer s.layers) (λ (node : DdNode). node.row)) in
     let few = few-above dp s c low narrow room u in
     record {
@@ -70,39 +69,46 @@ may-copy dp t s mid c some low narrow held room u um e =
       room = omega arith;
     }
 
-cut-built : (dp : Dp) (t : Option ℤ) (s mid new : SpaceView) (before after : CutView) → 0 < length s.layers → mid ≡ after_pruning dp t mid.told s → after ≡ cut_at dp mid before → HasBuilt dp t s new → HoldsCut (diagram_of s) before → HoldsCut (diagram_of new) after
-cut-built dp t s mid new before after some e kept n h =
+pub other-way : (a b : Bool) → a ≡ not b → b ≡ not a
+other-way a true e = ap not (sym e)
+other-way a false e = ap not (sym e)
+
+-- a layer is the first reduced one where none was reduced before and one is now
+first-now : (o : Option ℕ) (b : Bool) (depth : ℕ) → (is_none o && is_some (cond b (reduced_first o depth) o)) ≡ (is_none o && b)
+first-now None true depth = refl
+first-now None false depth = refl
+first-now (Some d) b depth = refl
+
+cut-built : (dp : Dp) (t : Option ℤ) (s mid : SpaceView) (whole : Bool) (before after : CutView) → 0 < length s.layers → HasBuilt dp t s mid → whole ≡ is_none s.first_reduced → after ≡ cut_at whole mid before → HoldsCut (diagram_of s) before → HoldsCut (diagram_of mid) after
+cut-built dp t s mid whole before after some n is kept h =
     let first = length s.prefix in
     let k = last_depth s in
     let o = s.first_reduced in
-    let wide = is_wide dp first s.width (k + 1) (rule_of dp t s (last_layer s.layers)).next in
-    let pruned = after_pruning dp t mid.told s in
-    let deep : last_depth pruned ≡ k + 1 = (let long = length-expand (rule_of dp t s) s.layers some in omega arith) in
-    let same : is_first_wide dp mid ≡ (is_none o && wide) = ap (is_first_wide dp) e ∙ ap₂ (λ (d : ℕ) (l : List DdNode). is_none o && is_wide dp first s.width d l) deep (last-expand (rule_of dp t s) s.layers some) in
-    let grown = cut-grows first s.layers (built dp first s.width t k) (built-stays dp first s.width t k) some (rows_above mid) (above-rows dp t s mid some e) before o wide h in
-    let cut : after ≡ cond (is_none o && wide) (record before { rows = rows_above mid }) before = kept ∙ ap (λ b. cond b (record before { rows = rows_above mid }) before) same in
+    let wide = is_wide dp first s.width (k + 1) (prune dp (k + 1) t (expand dp k (last_layer s.layers))).next in
+    let now : (whole && is_some mid.first_reduced) ≡ (is_none o && wide) = ap₂ (λ a (l : Option ℕ). a && is_some l) is (ap (λ (v : SpaceView). v.first_reduced) n.space) ∙ first-now o wide (k + 1) in
+    let grown = cut-grows first s.layers (built dp first s.width t k) (built-stays dp first s.width t k) some (rows_above mid) (above-rows dp t s mid some n) before o wide h in
+    let cut : after ≡ cond (is_none o && wide) (record before { rows = rows_above mid }) before = kept ∙ ap (λ b. cond b (record before { rows = rows_above mid }) before) now in
     subst (λ d. HoldsCut d after) (sym (ap diagram_of n.space)) (subst (HoldsCut (layers_so_far first (expand_last (built dp first s.width t k) s.layers) (with_next dp t s))) (sym cut) grown)
 
-cut-room : (dp : Dp) (w : ℕ) (s : SpaceView) (before after : CutView) → after ≡ cut_at dp s before → HasCutRoom dp w before → HasCutRoom dp w after
-cut-room dp w s before after e h =
-    subst (HasCutRoom dp w) (sym e) (elim (is_first_wide dp s) as (λ b. HasCutRoom dp w (cond b (record before { rows = rows_above s }) before)) [
+cut-room : (dp : Dp) (w : ℕ) (s : SpaceView) (whole : Bool) (before after : CutView) → after ≡ cut_at whole s before → HasCutRoom dp w before → HasCutRoom dp w after
+cut-room dp w s whole before after e h =
+    subst (HasCutRoom dp w) (sym e) (elim (whole && is_some s.first_reduced) as (λ b. HasCutRoom dp w (cond b (record before { rows = rows_above s }) before)) [
       | true ↦ record { words = h.words; enough = h.enough }
       | false ↦ h
     ])
 
--- a layer that is expanded, pruned and reduced is built, and the rows above it are held no longer
-pub builds-lean : (dp : Dp) (t : Option ℤ) (s mid small new : SpaceView) (before after : CutView) → 0 < length s.layers → HasCutRoom dp s.width before → mid ≡ after_pruning dp t mid.told s → after ≡ cut_at dp mid before → HasReduced dp mid small
-    → new ≡ record small { held = last_depth small } → HasBuiltLean dp t s new before after
-builds-lean dp t s mid small new before after some room e kept reduced dropped =
-    let n = builds-one dp t s mid small some e reduced in
-    let held : small.held ≡ s.held = ap (λ (v : SpaceView). v.held) n.space in
-    let same : small ≡ record new { held = s.held } = ap (λ h. record small { held = h }) held ∙ sym (ap (λ (v : SpaceView). record v { held = s.held }) dropped) in
-    let shown : diagram_of small ≡ diagram_of new = ap diagram_of same in
+-- a layer is built, and the rows above it are held no longer
+pub builds-lean : (dp : Dp) (t : Option ℤ) (s mid new : SpaceView) (whole : Bool) (before after : CutView) → 0 < length s.layers → HasCutRoom dp s.width before → whole ≡ is_none s.first_reduced → HasBuilt dp t s mid → after ≡ cut_at whole mid before
+    → new ≡ record mid { held = last_depth mid } → HasBuiltLean dp t s new before after
+builds-lean dp t s mid new whole before after some room is n kept dropped =
+    let held : mid.held ≡ s.held = ap (λ (v : SpaceView). v.held) n.space in
+    let same : mid ≡ record new { held = s.held } = ap (λ h. record mid { held = h }) held ∙ sym (ap (λ (v : SpaceView). record v { held = s.held }) dropped) in
+    let shown : diagram_of mid ≡ diagram_of new = ap diagram_of same in
     record {
       whole = subst (HasBuilt dp t s) same n;
       held = ap (λ (v : SpaceView). v.held) dropped ∙ ap last_depth same;
-      cut = λ h. subst (λ d. HoldsCut d after) shown (cut-built dp t s mid small before after some e kept n h);
-      room = cut-room dp s.width mid before after kept room;
+      cut = λ h. subst (λ d. HoldsCut d after) shown (cut-built dp t s mid whole before after some n is kept h);
+      room = cut-room dp s.width mid whole before after kept room;
     }
 
 -- ---- all layers

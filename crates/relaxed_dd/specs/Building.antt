@@ -4,18 +4,9 @@ use Rattle.dp_model.specs.Dp.{Dp}
 use Rattle.dp_model.specs.Prefixes.{IsPrefix}
 use Rattle.dp_model.specs.Reached.{reached}
 use Rattle.dp_laws.specs.Diagrams.Nodes.{DdNode}
-use Rattle.dp_laws.specs.Rules.Compiling.{expand, prune, is_wide, reduced, built, compiled, first_reduced_below, start_layer, relaxed}
-use Rattle.layer_build.specs.Layers.{SpaceView, IsPreparedFor, diagram_of, last_depth, last_layer, expand_last, on_last_two, reduced_first}
+use Rattle.dp_laws.specs.Rules.Compiling.{expand, prune, is_wide, built, compiled, first_reduced_below, start_layer, relaxed}
+use Rattle.layer_build.specs.Layers.{SpaceView, IsPreparedFor, diagram_of, last_depth, last_layer, expand_last, reduced_first}
 use Rattle.layer_build.specs.UnderWay.{IsUnderWay}
-
--- the least depth that was reduced, once the last layer is reduced where it has to be
-abbrev pub with_last : Dp → SpaceView → Option ℕ
-with_last dp s = cond (is_wide dp (length s.prefix) s.width (last_depth s) (last_layer s.layers)) (reduced_first s.first_reduced (last_depth s)) s.first_reduced
-
--- the last layer is reduced where it has to be
-pub record HasReduced (dp : Dp) (old new : SpaceView) : Type 0 where
-  pub space : new ≡ record old { layers = on_last_two (reduced dp (length old.prefix) old.width (last_depth old)) old.layers; told = new.told; first_reduced = with_last dp old }
-  pub under_way : IsUnderWay dp new
 
 -- the least depth that was reduced, once the next layer is built
 abbrev pub with_next : Dp → Option ℤ → SpaceView → Option ℕ

@@ -1,26 +1,22 @@
 -- A diagram that is compiled while the rows of few of its layers are held.
-use Rattle.std.specs.Prelude.{◌≡◌, ℕ, ◌-◌, ◌<◌, ◌≤◌, ℤ, Bool, ◌&&◌, cond, List, length, Option, Some, is_none}
+use Rattle.std.specs.Prelude.{◌≡◌, ℕ, ◌-◌, ◌<◌, ◌≤◌, ℤ, Bool, ◌&&◌, cond, List, length, Option, Some, is_some}
 use Rattle.dp_model.specs.Dp.{Dp}
 use Rattle.dp_model.specs.Lists.{Each}
 use Rattle.dp_model.specs.Reached.{reached}
 use Rattle.dp_laws.specs.Diagrams.Nodes.{DdNode, DdLayers}
-use Rattle.dp_laws.specs.Rules.Compiling.{is_wide, relaxed}
-use Rattle.layer_build.specs.Layers.{SpaceView, IsPreparedFor, diagram_of, last_depth, last_layer, layer_at}
+use Rattle.dp_laws.specs.Rules.Compiling.{relaxed}
+use Rattle.layer_build.specs.Layers.{SpaceView, IsPreparedFor, diagram_of, last_depth, layer_at}
 use Rattle.relaxed_dd.specs.Building.{HasBuilt, HasCompiled}
 use Rattle.relaxed_dd.specs.Cut.{CutView, HasCutRoom, AreCutOf, rows_of}
 use Rattle.relaxed_dd.specs.Shown.{layer_in}
-
--- whether the last layer is the first one that has to be reduced
-abbrev pub is_first_wide : Dp → SpaceView → Bool
-is_first_wide dp s = is_none s.first_reduced && is_wide dp (length s.prefix) s.width (last_depth s) (last_layer s.layers)
 
 -- the rows of the layer above the last one
 abbrev pub rows_above : SpaceView → List (List ℤ)
 rows_above s = rows_of (layer_at s (last_depth s - 1))
 
--- the kept rows, once the last layer is to be reduced where it has to: at the first such layer they are those of the one above
-abbrev pub cut_at : Dp → SpaceView → CutView → CutView
-cut_at dp s c = cond (is_first_wide dp s) (record c { rows = rows_above s }) c
+-- the kept rows, once the last layer is built: where it is the first reduced one they are those of the layer above it
+abbrev pub cut_at : Bool → SpaceView → CutView → CutView
+cut_at whole s c = cond (whole && is_some s.first_reduced) (record c { rows = rows_above s }) c
 
 -- the rows of the layer above the last one are held, and there is room for them
 pub record MayCopy (s : SpaceView) (c : CutView) : Type 0 where

@@ -6,11 +6,11 @@ ghost use Rattle.layer_build.specs.Layers.{IsPreparedFor, last_depth, last_layer
 ghost use Rattle.layer_build.specs.UnderWay.{IsUnderWay};
 ghost use Rattle.relaxed_dd.specs.Building.{IsStarted};
 ghost use Rattle.relaxed_dd.specs.Cut.{HasCutRoom};
-ghost use Rattle.relaxed_dd.specs.Lean.{is_first_wide, rows_above, cut_at, MayCopy, HasBuiltLean, HasCompiledLean, IsMadeLean};
+ghost use Rattle.relaxed_dd.specs.Lean.{rows_above, cut_at, MayCopy, HasBuiltLean, HasCompiledLean, IsMadeLean};
 
-use crate::building::{is_wide, reduce};
 use crate::cut::CutRows;
 use crate::suffixes::set_all;
+use crate::widely::build_layer;
 use dp_model::{DpModel, Sub};
 use layer_build::Workspace;
 use std::thread::Threads;
@@ -28,27 +28,19 @@ fn copy_above(space: &Workspace, cut: &mut CutRows)
     }
 }
 
-/// Whether the last layer is the first one that has to be reduced.
-fn is_first_wide<M: DpModel>(space: &Workspace, model: &M) -> bool
-    requires { 0 < length space.now.layers }
-    ensures { result ≡ is_first_wide (M.meaning (M.numbers model.now)) space.now }
+/// Copies the rows of the layer above the last one where the last one is the first reduced layer. `whole` tells that no layer
+/// before it was reduced.
+fn keep_cut(space: &Workspace, whole: bool, cut: &mut CutRows)
+    requires { MayCopy space.now cut.old }
+    ensures { cut.new ≡ cut_at whole space.now cut.old }
 {
-    space.first_reduced().is_none() && is_wide(space, model)
-}
-
-/// Copies the rows of the layer above the last one where that is the first one to be reduced.
-fn keep_cut<M: DpModel>(space: &Workspace, model: &M, cut: &mut CutRows)
-    requires some { 0 < length space.now.layers }
-    requires copies { MayCopy space.now cut.old }
-    ensures { cut.new ≡ cut_at (M.meaning (M.numbers model.now)) space.now cut.old }
-{
-    if is_first_wide(space, model) {
+    if whole && space.first_reduced().is_some() {
         copy_above(space, cut);
     }
 }
 
 /// Builds the next layer, and gives back the rows of those above it.
-fn build_layer<M: DpModel, R: Threads + Sync>(
+fn build_lean_layer<M: DpModel, R: Threads + Sync>(
     space: &mut Workspace,
     model: &M,
     threshold: Option<i64>,
@@ -63,9 +55,9 @@ fn build_layer<M: DpModel, R: Threads + Sync>(
     requires room { HasCutRoom (M.meaning (M.numbers model.now)) space.old.width cut.old }
     ensures { HasBuiltLean (M.meaning (M.numbers model.now)) threshold space.old space.new cut.old cut.new }
 {
-    expander.expand_pruned(space, model, threshold);
-    keep_cut(space, model, cut);
-    reduce(space, model);
+    let whole = space.first_reduced().is_none();
+    build_layer(space, model, threshold, expander);
+    keep_cut(space, whole, cut);
     space.drop_above();
 }
 
@@ -86,7 +78,7 @@ fn build<M: DpModel, R: Threads + Sync>(
     let first = space.first_depth();
     let vars = model.vars();
     'layers: for _ in first..vars {
-        build_layer(space, model, threshold, cut, expander);
+        build_lean_layer(space, model, threshold, cut, expander);
     }
 }
 

@@ -11,7 +11,7 @@ ghost use Rattle.layer_build.specs.UnderWay.{IsUnderWay};
 ghost use Rattle.relaxed_dd.specs.Building.{HasBuilt, HasCompiled, IsMade, IsStarted};
 ghost use Rattle.relaxed_dd.specs.Shown.{layers_of, width_of, IsDiagramOf};
 
-use crate::building::reduce;
+use crate::building::is_next_reduced;
 use crate::diagram::Diagram;
 use crate::suffixes::set_all;
 use dp_model::{DpModel, Sub};
@@ -20,7 +20,7 @@ use std::thread::Threads;
 use wide_layers::Expander;
 
 /// Builds the next layer.
-fn build_layer<M: DpModel, R: Threads + Sync>(
+pub(super) fn build_layer<M: DpModel, R: Threads + Sync>(
     space: &mut Workspace,
     model: &M,
     threshold: Option<i64>,
@@ -32,8 +32,11 @@ fn build_layer<M: DpModel, R: Threads + Sync>(
     requires narrow { length space.old.prefix + 2 ≤ last_depth space.old → length (last_layer space.old.layers) ≤ space.old.width }
     ensures { HasBuilt (M.meaning (M.numbers model.now)) threshold space.old space.new }
 {
-    expander.expand_pruned(space, model, threshold);
-    reduce(space, model);
+    if is_next_reduced(space, model) {
+        expander.expand_within(space, model, threshold);
+    } else {
+        expander.expand_pruned(space, model, threshold);
+    }
 }
 
 /// Builds all layers below the first one.

@@ -6,7 +6,7 @@ pub layers-preserved : goal.layers-preserved
 layers-preserved g c =
     let dp = g.M.DpModel.meaning (g.M.DpModel.numbers c.args.model.now) in
     let low : c.layers.counter < dp.vars = (let e = c.vars-vars.ensures in let t = c.layers-test.true in omega arith) in
-    lean-further dp c.args.threshold c.layers.counter c.args.space.now c.layers.space c.build_layer.new.space c.layers.cut c.build_layer.new.cut c.requires.started.positive low c.layers.invariant c.build_layer.ensures
+    lean-further dp c.args.threshold c.layers.counter c.args.space.now c.layers.space c.build_lean_layer.new.space c.layers.cut c.build_lean_layer.new.cut c.requires.started.positive low c.layers.invariant c.build_lean_layer.ensures
 
 pub returns : goal.returns
 returns g c =

@@ -1,10 +1,15 @@
-use Rattle.relaxed_dd.proofs.Built.{builds-one, some-pruned}
+use Rattle.std.proofs.Common.{true, false, sym, ◌∙◌}
+use Rattle.relaxed_dd.proofs.Built.{built-by}
 use Rattle.relaxed_dd.proofs.widely.build_layer.Goals as goal
 
-pub reduce-requires-clause-some : goal.reduce-requires-clause-some
-reduce-requires-clause-some g c κs within =
-    some-pruned (g.M.DpModel.meaning (g.M.DpModel.numbers c.args.model.now)) c.args.threshold c.args.space.now c.expand_pruned.new.space c.requires.some c.expand_pruned.ensures.layers
+pub returns-then-is_next_reduced : goal.returns-then-is_next_reduced
+returns-then-is_next_reduced g c =
+    let dp = g.M.DpModel.meaning (g.M.DpModel.numbers c.args.model.now) in
+    let e = c.expand_within in
+    built-by dp c.args.threshold c.args.space.now e.new.space true (sym c.is_next_reduced.ensures ∙ c.if-is_next_reduced.true) e.ensures.layers e.ensures.under_way
 
-pub returns : goal.returns
-returns g c =
-    builds-one (g.M.DpModel.meaning (g.M.DpModel.numbers c.args.model.now)) c.args.threshold c.args.space.now c.expand_pruned.new.space c.reduce.new.space c.requires.some c.expand_pruned.ensures.layers c.reduce.ensures
+pub returns-else-is_next_reduced : goal.returns-else-is_next_reduced
+returns-else-is_next_reduced g c =
+    let dp = g.M.DpModel.meaning (g.M.DpModel.numbers c.args.model.now) in
+    let e = c.expand_pruned in
+    built-by dp c.args.threshold c.args.space.now e.new.space false (sym c.is_next_reduced.ensures ∙ c.if-is_next_reduced.false) e.ensures.layers e.ensures.under_way
