@@ -25,3 +25,4 @@ pub mod InOrder
 pub mod MergedKeys
 pub mod Listed
 pub mod Reordered
+pub mod InFull
