@@ -26,3 +26,4 @@ pub mod MergedKeys
 pub mod Listed
 pub mod Reordered
 pub mod InFull
+pub mod MergedInFull
