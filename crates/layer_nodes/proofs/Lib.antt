@@ -27,3 +27,4 @@ pub mod Listed
 pub mod Reordered
 pub mod InFull
 pub mod MergedInFull
+pub mod Reduced

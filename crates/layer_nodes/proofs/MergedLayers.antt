@@ -72,14 +72,17 @@ module _ (dp : Dp) (k width : ℕ) (old : RegionView) (nodes : List Node) (regio
       h.targets ∙ (ap (merge_redirects dp k width) (sym (bare-seen paths row arcs nodes))
       ∙ (redirects-strip dp k width (map show nodes) ∙ ap (merge_redirects dp k width) (sym (below-seen paths row arcs nodes))))
 
-  pub merged-ranked : Each (IsNodeOf dp k) (map (node_view_by (held_row old) arcs) nodes) → Each (IsRanked dp k) (map (node_view_by (held_row region) arcs) nodes2)
-  merged-ranked all =
+  pub merged-ranks : Each (IsRanked dp k) (map (node_view_by (held_row old) arcs) nodes) → Each (IsRanked dp k) (map (node_view_by (held_row region) arcs) nodes2)
+  merged-ranks ranked =
       let seen_by = node_view_by row arcs in
-      let ranked = Each-then (IsNodeOf dp k) (IsRanked dp k) (map seen_by nodes) (λ node g. record { state = g.state; rank = g.rank; hash = g.hash }) all in
       subst (Each (IsRanked dp k)) (sym views)
       (Each-append (IsRanked dp k) (map seen_by (take n nodes)) (view new ∷ [])
       (subst (Each (IsRanked dp k)) (take-map seen_by n nodes) (each-take (IsRanked dp k) n (map seen_by nodes) ranked))
       (record { state = subst (IsStateOf dp k) (sym new-row) h.state; rank = ap (dp.rank k) (sym new-row); hash = ap (dp.hash k) (sym new-row) }, tt))
+
+  pub merged-ranked : Each (IsNodeOf dp k) (map (node_view_by (held_row old) arcs) nodes) → Each (IsRanked dp k) (map (node_view_by (held_row region) arcs) nodes2)
+  merged-ranked all =
+      merged-ranks (Each-then (IsNodeOf dp k) (IsRanked dp k) (map (node_view_by row arcs) nodes) (λ node g. record { state = g.state; rank = g.rank; hash = g.hash }) all)
 
   pub merged-lie : {X : Type 0} (stored : List X) → Each (HasArcsIn stored) nodes → Each (HasArcsIn stored) nodes2
   merged-lie stored lie = subst (Each (HasArcsIn stored)) (sym h.list) (Each-append (HasArcsIn stored) (take n nodes) (new ∷ []) (each-take (HasArcsIn stored) n nodes lie) (omega arith, tt))
