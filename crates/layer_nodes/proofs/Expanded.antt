@@ -7,7 +7,6 @@ use Rattle.std.specs.List.{take-map}
 use Rattle.dp_model.specs.Decisions.{below}
 use Rattle.dp_model.specs.Dp.{Dp}
 use Rattle.dp_model.specs.Gaps.{IsStateOf}
-use Rattle.dp_model.specs.Laws.{IsLawful}
 use Rattle.dp_model.specs.Lists.{Each}
 use Rattle.dp_model.specs.Rows.{row_same}
 use Rattle.dp_model.proofs.Members.{one-of-has, each-has, Each-then}
@@ -19,7 +18,7 @@ use Rattle.dp_laws.specs.declared.arc.DdArc.{DdArc}
 use Rattle.dp_laws.specs.Diagrams.Nodes.{DdNode, prefix_at}
 use Rattle.dp_laws.specs.Diagrams.Seen.{decisions_at}
 use Rattle.dp_laws.proofs.Diagrams.Places.{same-Some, Has-at}
-use Rattle.dp_laws.specs.Rules.Compiling.{TwoLayers, expand}
+use Rattle.dp_laws.specs.Rules.Compiling.{expand}
 use Rattle.dp_laws.specs.Rules.Expanding.{makes, is_exact_row, node_for, new_layer, arc_of, with_arcs}
 use Rattle.dp_laws.proofs.Rules.Expanded.{RowsApart, found-row, one-place, new-apart}
 use Rattle.layer_candidates.specs.declared.key.Key.{Key}
@@ -35,14 +34,13 @@ use Rattle.layer_candidates.proofs.Sorted.{key-row, keys-are, in-order, length-k
 use Rattle.layer_nodes.specs.declared.node.Node.{Node}
 use Rattle.layer_nodes.specs.declared.routing.Route.{Route}
 use Rattle.layer_nodes.specs.declared.routing.StoredArc.{StoredArc}
-use Rattle.row_region.specs.Region.{RegionView, IsLive}
-use Rattle.layer_nodes.specs.Holding.{AreHeld, HaveRows}
+use Rattle.row_region.specs.Region.{RegionView}
+use Rattle.layer_nodes.specs.Holding.{AreHeld}
 use Rattle.layer_nodes.specs.Nodes.{NodeView, shown, shown_from, shown_layer, shown_below, without_arcs}
 use Rattle.layer_nodes.specs.Stored.{node_view_by, rows_in, HasArcsIn}
 use Rattle.layer_nodes.specs.Steps.{IsParent, IsRanked}
 use Rattle.layer_nodes.specs.Expanding.{Trial, trial, trials_at, trials_of, all_spanned, arc_to, LeadsToRow, AreArcsOf, all_exact, mark_at, AreTried, key_in, IsNumbered, node_of, member_of, members_from, AreArranged, IsExpanded}
 use Rattle.layer_nodes.specs.Routing.{routed, routed_arcs, to_way, to_ways}
-use Rattle.layer_nodes.proofs.Holding.{views-held}
 use Rattle.layer_nodes.proofs.Routed.{led, routed-led}
 use Rattle.layer_nodes.proofs.Spans.{length-spanned}
 use Rattle.layer_nodes.proofs.Tried.{length-arcs}
@@ -255,11 +253,6 @@ keys-unmerged ways marks (key ∷ ks) = (refl, keys-unmerged ways marks ks)
 pub nodes-unmerged : (ways : List Way) (marks : List Bool) (ks : List Key) (nodes : List Node) → nodes ≡ map (node_of ways marks) ks → Each (λ (n : Node). IsSome n.parent) nodes
 nodes-unmerged ways marks ks nodes is = subst (Each (λ (n : Node). IsSome n.parent)) (sym is) (keys-unmerged ways marks ks)
 
--- nodes in memory are seen with their parents
-pub unmerged-seen : (row : ℕ → List ℤ) (arcs : List DdArc) (nodes : List Node) → Each (λ (n : Node). IsSome n.parent) nodes → Each (λ (n : NodeView). IsSome n.parent) (map (node_view_by row arcs) nodes)
-unmerged-seen row arcs [] h = tt
-unmerged-seen row arcs (node ∷ nodes) h = (h.0, unmerged-seen row arcs nodes h.1)
-
 -- nodes of keys have no arcs
 pub keys-bare : (ways : List Way) (marks : List Bool) (any : List DdArc) (ks : List Key) → Each (HasArcsIn any) (map (node_of ways marks) ks)
 keys-bare ways marks any [] = tt
@@ -368,31 +361,3 @@ pub arranged-by : (held : ℕ → List ℤ) (ways ways2 : List Way) (marks marks
     → AreArranged held ways marks routes nodes → ways ≡ ways2 → marks ≡ marks2 → AreArranged held ways2 marks2 routes nodes
 arranged-by held ways ways2 marks marks2 routes nodes h c d =
     subst (λ x. AreArranged held x marks2 routes nodes) c (subst (λ x. AreArranged held ways x routes nodes) d h)
-
--- whatever the rows are found by that the region has
-module _ (rule : List DdNode → TwoLayers) (dp : Dp) (k : ℕ) (region : RegionView) (old new : List Node) (arcs : List DdArc) (held : ℕ → List ℤ) (below : List Node) (h : IsExpanded rule dp k (held_row region) old new arcs held below)
-    (row : ℕ → List ℤ) (have : HaveRows region row (rows_in old)) (before : List DdArc) where
-  olds-same : map (node_view_by (held_row region) before) old ≡ map (node_view_by row before) old
-  olds-same = views-held region row before old have
-
-  news-same : map (node_view_by (held_row region) arcs) new ≡ map (node_view_by row arcs) new
-  news-same = views-held region row arcs new (subst (HaveRows region row) (sym h.places) have)
-
-  pub above-by : (paths : ℕ → List ℕ) → shown_layer paths (map (node_view_by row arcs) new) ≡ (rule (shown_layer paths (map (node_view_by row before) old))).above
-  above-by paths = ap (shown_layer paths) (sym news-same) ∙ (h.above_is before paths ∙ ap (λ l. (rule (shown_layer paths l)).above) olds-same)
-
-  pub next-by : (paths : ℕ → List ℕ) (any : List DdArc) → shown_below paths (map (node_view_by held any) below) ≡ (rule (shown_layer paths (map (node_view_by row before) old))).next
-  next-by paths any = h.next_is before any paths ∙ ap (λ l. (rule (shown_layer paths l)).next) olds-same
-
-  pub rest-by : map without_arcs (map (node_view_by row arcs) new) ≡ map without_arcs (map (node_view_by row before) old)
-  rest-by = ap (map without_arcs) (sym news-same) ∙ (h.rest before ∙ ap (map without_arcs) olds-same)
-
--- the nodes below, whose rows were put into the region, are held there
-pub ranked-held : (dp : Dp) → IsLawful dp → (k : ℕ) (region : RegionView) (arcs : List DdArc) (nodes : List Node) → region.words ≡ dp.words → Each (IsLive region) (rows_in nodes)
-    → Each (IsRanked dp k) (map (node_view_by (held_row region) arcs) nodes) → AreHeld region (map (node_view_by (held_row region) arcs) nodes)
-ranked-held dp laws k region arcs [] words live ranked = tt
-ranked-held dp laws k region arcs (node ∷ nodes) words live ranked =
-    let is = held-is region node.row live.0.0 live.0.1 in (
-      record { found = live.0.1 ∙ ap (λ (r : List ℤ). Some (Some r)) (sym is); size = laws.sizes.cells k (held_row region node.row) ranked.0.state ∙ sym words },
-      ranked-held dp laws k region arcs nodes words live.1 ranked.1,
-    )

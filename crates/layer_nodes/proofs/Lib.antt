@@ -2,6 +2,7 @@ pub mod Tried
 pub mod Numbered
 pub mod Spans
 pub mod Expanded
+pub mod ExpandedLayers
 pub mod KeyRows
 pub mod Redirected
 pub mod Routed
@@ -28,3 +29,4 @@ pub mod Reordered
 pub mod InFull
 pub mod MergedInFull
 pub mod Reduced
+pub mod Reordering

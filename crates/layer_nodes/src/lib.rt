@@ -34,7 +34,7 @@ mod routing;
 mod striking;
 
 pub use ending::{set_last_suffixes, set_suffixes};
-pub use expanding::{Expansion, expand};
+pub use expanding::{Expansion, expand, expand_merged};
 pub use keeping::keep_first;
 pub use layer::Layer;
 pub use merging::merge_rest;
