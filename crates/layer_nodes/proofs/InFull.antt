@@ -1,12 +1,11 @@
 -- The layer of which all but the first keys were merged at once, with all its keys in order: its nodes, and plain routes that get new targets.
 use Rattle.std.proofs.Common.{◌≡◌, ◌≢◌, ℕ, zero, suc, ◌+◌, ◌-◌, ◌<◌, ◌≤◌, nat_eq, ℤ, pos, ◌+ℤ◌, Bool, false, cond, List, [], ◌∷◌, ◌++◌, length, map, take, drop, get_or, slice_get, Option, Some, None, option_map, option_and_then, IsPermutation, IsSortedBy, ◌⊎◌, inl, inr, refl, sym, ◌∙◌, ap, ap₂, subst, take-append-drop, length-drop, arith}
 use Rattle.std.proofs.lemmas.Int.{ints}
-use Rattle.std.proofs.lemmas.List.{length-map, get_or_append_left, get_or-append_right, get_or-take, length-take-le, drop-append-le, drop_all, drop-map}
-use Rattle.std.proofs.lemmas.List.Sorted.{IsPermutation-append_right, IsPermutation-map, IsPermutation-sym, IsPermutation-trans, length_permutation}
+use Rattle.std.proofs.lemmas.List.{get_or_append_left, get_or-append_right, get_or-take, length-take-le, drop-append-le, drop_all, drop-map}
+use Rattle.std.proofs.lemmas.List.Sorted.{IsPermutation-append_right, IsPermutation-map, IsPermutation-sym, IsPermutation-trans}
 use Rattle.std.proofs.lemmas.Option.{slice_get-map, slice_get-get_or}
 use Rattle.dp_model.specs.Dp.{Dp}
 use Rattle.dp_model.specs.Lists.{Each}
-use Rattle.dp_model.proofs.Members.{Each-map}
 use Rattle.dp_model.proofs.RowLemmas.{nat_eq-is, nat_eq-self}
 use Rattle.dp_laws.specs.Pairs.{EachTwo}
 use Rattle.dp_laws.specs.Rules.Redirects.{Redirect}
@@ -24,7 +23,7 @@ use Rattle.layer_candidates.proofs.Sorted.{goes-strict, unstruck-are}
 use Rattle.row_region.specs.Region.{RegionView}
 use Rattle.layer_nodes.specs.declared.node.Node.{Node}
 use Rattle.layer_nodes.specs.declared.routing.Route.{Route}
-use Rattle.layer_nodes.specs.Expanding.{key_in, mark_at, number_at, node_of, IsNumbered}
+use Rattle.layer_nodes.specs.Expanding.{key_in, number_at, node_of, IsNumbered}
 use Rattle.layer_nodes.specs.Leading.{bare}
 use Rattle.layer_nodes.specs.Redirecting.{redirect_of, rerouted_by, rerouted, IsRerouted, AreRerouted}
 use Rattle.layer_nodes.specs.Reducing.{route_to, merged_route, row_of_keys, LeadToMerged, AreFirst, AreReduced}
@@ -240,9 +239,6 @@ module _ (dp : Dp) (k : ℕ) (t : Option ℤ) (width : ℕ) (region : RegionView
   pub full-sorted : IsSortedBy (goes_before (held_row r.left)) (in_full (held_row r.left) (width - 1) r.keys)
   full-sorted = keys-sorted held n r.keys r.first
 
-  pub full-length : length (in_full (held_row r.left) (width - 1) r.keys) ≡ length r.keys
-  full-length = length_permutation r.keys keys full-permutation
-
   full-all : IsPermutation (unstruck_keys dp k t region ways) keys
   full-all = IsPermutation-trans (unstruck_keys dp k t region ways) r.keys keys r.all full-permutation
 
@@ -267,12 +263,6 @@ module _ (dp : Dp) (k : ℕ) (t : Option ℤ) (width : ℕ) (region : RegionView
   full-stay : HasLeft region (rows_of ways) r.left (key_rows (unstruck_keys dp k t region ways))
   full-stay = left-moved region r.left (rows_of ways) (key_rows r.keys) (key_rows (unstruck_keys dp k t region ways))
       (IsPermutation-map (λ (key : Key). key.row) r.keys (unstruck_keys dp k t region ways) (IsPermutation-sym (unstruck_keys dp k t region ways) r.keys r.all)) r.stay
-
-  pub full-wide : width < length (nodes_in_full (held_row r.left) ways marks (width - 1) r.keys)
-  full-wide = (let same = length-map keys (node_of ways marks) in let size = full-length in let wide = r.wide in omega arith)
-
-  pub full-inexact : Each (λ (node : Node). node.exact ≡ false) (nodes_in_full (held_row r.left) ways marks (width - 1) r.keys)
-  full-inexact = Each-map (node_of ways marks) (λ (node : Node). node.exact ≡ false) keys (each-permutation r.keys keys full-permutation (λ (key : Key). mark_at marks key.place ≡ false) r.inexact)
 
   module _ (live : AreLive region (rows_of ways)) where
     pub full-sifted : AreSifted dp k t region ways marks (plain_routes (in_full (held_row r.left) (width - 1) r.keys) (length routes)) (nodes_in_full (held_row r.left) ways marks (width - 1) r.keys)
