@@ -52,3 +52,8 @@ last-at (l ∷ []) some = refl
 last-at (l ∷ n ∷ rest) some =
     let at : length (l ∷ n ∷ rest) - 1 ≡ suc (length (n ∷ rest) - 1) = omega arith in
     ap (nth (l ∷ n ∷ rest)) at ∙ last-at (n ∷ rest) (omega arith)
+
+pub last-at-depth : (first : ℕ) (ls : List (List DdNode)) (depth : ℕ) → 0 < length ls → depth ≡ first + (length ls - 1) → nth ls (depth - first) ≡ last_layer ls
+last-at-depth first ls depth some e =
+    let at : depth - first ≡ length ls - 1 = omega arith in
+    ap (nth ls) at ∙ last-at ls some
