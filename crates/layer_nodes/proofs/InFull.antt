@@ -2,7 +2,7 @@
 use Rattle.std.proofs.Common.{◌≡◌, ◌≢◌, ℕ, zero, suc, ◌+◌, ◌-◌, ◌<◌, ◌≤◌, nat_eq, ℤ, pos, ◌+ℤ◌, Bool, false, cond, List, [], ◌∷◌, ◌++◌, length, map, take, drop, get_or, slice_get, Option, Some, None, option_map, option_and_then, IsPermutation, IsSortedBy, ◌⊎◌, inl, inr, refl, sym, ◌∙◌, ap, ap₂, subst, take-append-drop, length-drop, arith}
 use Rattle.std.proofs.lemmas.Int.{ints}
 use Rattle.std.proofs.lemmas.List.{get_or_append_left, get_or-append_right, get_or-take, length-take-le, drop-append-le, drop_all, drop-map}
-use Rattle.std.proofs.lemmas.List.Sorted.{IsPermutation-append_right, IsPermutation-map, IsPermutation-sym, IsPermutation-trans}
+use Rattle.std.proofs.lemmas.List.Sorted.{IsPermutation-append_right, IsPermutation-map, IsPermutation-sym, IsPermutation-trans, length_permutation}
 use Rattle.std.proofs.lemmas.Option.{slice_get-map, slice_get-get_or}
 use Rattle.dp_model.specs.Dp.{Dp}
 use Rattle.dp_model.specs.Lists.{Each}
@@ -45,10 +45,10 @@ module _ (held : ℕ → List ℤ) (n : ℕ) (keys : List Key) where
   abbrev rest : List Key
   rest = put_all (goes_before held) (goes-strict held) (drop n keys)
 
-  rest-moved : IsPermutation (drop n keys) rest
+  pub rest-moved : IsPermutation (drop n keys) rest
   rest-moved = moved-all (goes_before held) (goes-strict held) (drop n keys)
 
-  keys-moved : IsPermutation keys (in_full held n keys)
+  pub keys-moved : IsPermutation keys (in_full held n keys)
   keys-moved = subst (λ l. IsPermutation l (in_full held n keys)) (take-append-drop n keys) (IsPermutation-append_right (take n keys) (drop n keys) rest rest-moved)
 
   keys-sorted : AreFirst held n keys → IsSortedBy (goes_before held) (in_full held n keys)
@@ -63,7 +63,7 @@ module _ (held : ℕ → List ℤ) (n : ℕ) (keys : List Key) where
     key-last : (j : ℕ) → n ≤ j → key_in (in_full held n keys) j ≡ key_in rest (j - n)
     key-last j more = get_or-append_right (take n keys) rest n j (key_in [] 0) (length-take-le n keys few) more
 
-    drop-full : drop n (in_full held n keys) ≡ rest
+    pub drop-full : drop n (in_full held n keys) ≡ rest
     drop-full =
         let size = length-take-le n keys few in
         drop-append-le n (take n keys) rest (omega arith) ∙ ap (λ l. l ++ rest) (drop_all n (take n keys) (omega arith))
@@ -238,6 +238,9 @@ module _ (dp : Dp) (k : ℕ) (t : Option ℤ) (width : ℕ) (region : RegionView
 
   pub full-sorted : IsSortedBy (goes_before (held_row r.left)) (in_full (held_row r.left) (width - 1) r.keys)
   full-sorted = keys-sorted held n r.keys r.first
+
+  pub full-length : length (in_full (held_row r.left) (width - 1) r.keys) ≡ length r.keys
+  full-length = length_permutation r.keys keys full-permutation
 
   full-all : IsPermutation (unstruck_keys dp k t region ways) keys
   full-all = IsPermutation-trans (unstruck_keys dp k t region ways) r.keys keys r.all full-permutation

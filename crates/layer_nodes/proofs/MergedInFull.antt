@@ -1,8 +1,8 @@
 -- What was merged at once is what comes of merging the layer with all its keys in order.
-use Rattle.std.proofs.Common.{◌≡◌, ◌≢◌, ℕ, ◌-◌, ◌<◌, ◌≤◌, ℤ, false, Bool, List, [], ◌∷◌, ◌++◌, length, map, take, drop, Option, Some, None, IsPermutation, refl, sym, ◌∙◌, ap, ap₂, subst, take-append-drop, arith}
-use Rattle.std.proofs.Math.Seq.{take-append_seam, drop-append_seam}
+use Rattle.std.proofs.Common.{◌≡◌, ◌≢◌, ℕ, ◌-◌, ◌<◌, ◌≤◌, ℤ, false, Bool, List, [], ◌∷◌, ◌++◌, length, map, take, drop, Option, Some, None, IsPermutation, refl, sym, ◌∙◌, ap, ap₂, subst, arith}
+use Rattle.std.proofs.Math.Seq.{take-append_seam}
 use Rattle.std.proofs.lemmas.List.{length-map, length-take-le, take-map, drop-map}
-use Rattle.std.proofs.lemmas.List.Sorted.{IsPermutation-map, IsPermutation-sym, IsPermutation-append_right, length_permutation}
+use Rattle.std.proofs.lemmas.List.Sorted.{IsPermutation-map, IsPermutation-sym, length_permutation}
 use Rattle.dp_model.specs.Dp.{Dp}
 use Rattle.dp_model.specs.Gaps.{IsStateOf}
 use Rattle.dp_model.specs.Laws.{IsLawful}
@@ -31,7 +31,8 @@ use Rattle.layer_nodes.specs.Merging.{HasMerged}
 use Rattle.layer_nodes.specs.Redirecting.{IsShort}
 use Rattle.layer_nodes.specs.Reducing.{bare_keys, key_node, row_of_keys, AreInexact, AreReduced}
 use Rattle.layer_nodes.specs.Stored.{rows_in}
-use Rattle.layer_nodes.proofs.InOrder.{put_all, moved-all}
+use Rattle.layer_nodes.proofs.InFull.{rest-moved, keys-moved, drop-full}
+use Rattle.layer_nodes.proofs.InOrder.{put_all}
 use Rattle.layer_nodes.proofs.KeyRows.{rows-of-nodes}
 use Rattle.layer_nodes.proofs.Reordered.{in_full, nodes_in_full, last_of, last_redirects}
 use Rattle.layer_nodes.proofs.Stored.{each-drop}
@@ -70,25 +71,11 @@ bare-nodes held ways marks (key ∷ keys) h =
 -- ---- the keys in full
 
 module _ (held : ℕ → List ℤ) (n : ℕ) (keys : List Key) (some : n ≤ length keys) where
-  abbrev rest : List Key
-  rest = put_all (goes_before held) (goes-strict held) (drop n keys)
-
-  size : length (take n keys) ≡ n
-  size = length-take-le n keys some
-
   take-full : take n (in_full held n keys) ≡ take n keys
-  take-full = sym (ap (λ m. take m (in_full held n keys)) size) ∙ take-append_seam (take n keys) rest
-
-  drop-full : drop n (in_full held n keys) ≡ rest
-  drop-full = sym (ap (λ m. drop m (in_full held n keys)) size) ∙ drop-append_seam (take n keys) rest
-
-  moved-full : IsPermutation keys (in_full held n keys)
-  moved-full =
-      subst (λ l. IsPermutation l (in_full held n keys)) (take-append-drop n keys)
-      (IsPermutation-append_right (take n keys) (drop n keys) rest (moved-all (goes_before held) (goes-strict held) (drop n keys)))
+  take-full = sym (ap (λ m. take m (in_full held n keys)) (length-take-le n keys some)) ∙ take-append_seam (take n keys) (put_all (goes_before held) (goes-strict held) (drop n keys))
 
   moved-last : IsPermutation (drop n keys) (drop n (in_full held n keys))
-  moved-last = subst (IsPermutation (drop n keys)) (sym drop-full) (moved-all (goes_before held) (goes-strict held) (drop n keys))
+  moved-last = subst (IsPermutation (drop n keys)) (sym (drop-full held n keys some)) (rest-moved held n keys)
 
 -- ---- the nodes in full
 
@@ -116,7 +103,7 @@ module _ (dp : Dp) (k : ℕ) (t : Option ℤ) (width : ℕ) (region : RegionView
   enough = let wide = r.wide in omega arith
 
   moved-keys : IsPermutation r.keys full
-  moved-keys = moved-full held n r.keys enough
+  moved-keys = keys-moved held n r.keys
 
   inexact-keys : AreInexact marks full
   inexact-keys = each-permutation r.keys full moved-keys _ r.inexact
