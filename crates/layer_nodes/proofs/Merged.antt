@@ -19,8 +19,8 @@ use Rattle.row_region.specs.Region.{RegionView, IsRow, HasPut}
 use Rattle.row_region.proofs.Callers.{put_row}
 use Rattle.layer_nodes.specs.declared.node.Node.{Node}
 use Rattle.layer_nodes.specs.Holding.{HaveRows}
-use Rattle.layer_nodes.specs.Leading.{IsNodeBy, bare}
-use Rattle.layer_nodes.specs.Merging.{greater, lifted, merged_at, HasMerged}
+use Rattle.layer_nodes.specs.Leading.{IsNodeIn, bare}
+use Rattle.layer_nodes.specs.Merging.{IsStateIn, of_row, row_of_places, greater, lifted, merged_at, HasMerged}
 use Rattle.layer_nodes.specs.Redirecting.{IsShort}
 use Rattle.layer_nodes.specs.Stored.{rows_in}
 use Rattle.layer_nodes.proofs.Exchanges.{rows-same, first-exchanged, first-rows, exchange-push}
@@ -37,30 +37,44 @@ short-more ls o all one = Each-append IsShort ls (o ∷ []) all (one, tt)
 -- ---- the row
 
 -- the first i rows were merged
-pub record IsMerging (dp : Dp) (k : ℕ) (row : ℕ → List ℤ) (nodes : List Node) (into : List ℤ) (i : ℕ) : Type 0 where
-  pub merged : merged_row dp k into (map (bare row) (drop i nodes)) ≡ row_of_all dp k (map (bare row) nodes)
+pub record IsMerging (dp : Dp) (k : ℕ) (row : ℕ → List ℤ) (places : List ℕ) (into : List ℤ) (i : ℕ) : Type 0 where
+  pub merged : merged_row dp k into (map (λ place. of_row (row place)) (drop i places)) ≡ row_of_places dp k row places
   pub state : IsStateOf dp k into
 
 module _ (dp : Dp) (k : ℕ) (row : ℕ → List ℤ) where
-  pub merging-first : (nodes : List Node) (d : Node) (into : List ℤ) → 0 < length nodes → Each (IsNodeBy dp k row) nodes → into ≡ row (get_or nodes 0 d).row → IsMerging dp k row nodes into 1
-  merging-first [] d into some all is = absurd (omega arith)
-  merging-first (node ∷ nodes) d into some all is = record {
-    merged = ap (λ r. merged_row dp k r (map (bare row) nodes)) is;
-    state = subst (IsStateOf dp k) (sym is) all.0.state;
+  pub merging-first : (places : List ℕ) (into : List ℤ) → 0 < length places → IsStateOf dp k (row (get_or places 0 0)) → into ≡ row (get_or places 0 0) → IsMerging dp k row places into 1
+  merging-first [] into some state is = absurd (omega arith)
+  merging-first (place ∷ places) into some state is = record {
+    merged = ap (λ r. merged_row dp k r (map (λ place. of_row (row place)) places)) is;
+    state = subst (IsStateOf dp k) (sym is) state;
   }
 
-  pub merging-more : IsLawful dp → (nodes : List Node) (into into2 : List ℤ) (i : ℕ) (d : Node) → IsMerging dp k row nodes into i → i < length nodes → IsNodeBy dp k row (get_or nodes i d)
-      → into2 ≡ dp.merged k into (row (get_or nodes i d).row) → IsMerging dp k row nodes into2 (i + 1)
-  merging-more laws nodes into into2 i d h less node is =
-      let s = row (get_or nodes i d).row in
+  pub merging-more : IsLawful dp → (places : List ℕ) (into into2 : List ℤ) (i : ℕ) → IsMerging dp k row places into i → i < length places → IsStateOf dp k (row (get_or places i 0))
+      → into2 ≡ dp.merged k into (row (get_or places i 0)) → IsMerging dp k row places into2 (i + 1)
+  merging-more laws places into into2 i h less state is =
+      let s = row (get_or places i 0) in
       record {
-        merged = ap (λ r. merged_row dp k r (map (bare row) (drop (i + 1) nodes))) is
-            ∙ (sym (ap (λ l. merged_row dp k into (map (bare row) l)) (drop_more nodes i d less)) ∙ h.merged);
-        state = subst (IsStateOf dp k) (sym is) (record { layer = h.state.layer; test = laws.states.merged k into s h.state node.state });
+        merged = ap (λ r. merged_row dp k r (map (λ place. of_row (row place)) (drop (i + 1) places))) is
+            ∙ (sym (ap (λ l. merged_row dp k into (map (λ place. of_row (row place)) l)) (drop_more places i 0 less)) ∙ h.merged);
+        state = subst (IsStateOf dp k) (sym is) (record { layer = h.state.layer; test = laws.states.merged k into s h.state state });
       }
 
-  pub merging-all : (nodes : List Node) (into : List ℤ) (i : ℕ) → IsMerging dp k row nodes into i → length nodes ≤ i → into ≡ row_of_all dp k (map (bare row) nodes)
-  merging-all nodes into i h end = sym (ap (λ l. merged_row dp k into (map (bare row) l)) (drop_all i nodes end)) ∙ h.merged
+  pub merging-all : (places : List ℕ) (into : List ℤ) (i : ℕ) → IsMerging dp k row places into i → length places ≤ i → into ≡ row_of_places dp k row places
+  merging-all places into i h end = sym (ap (λ l. merged_row dp k into (map (λ place. of_row (row place)) l)) (drop_all i places end)) ∙ h.merged
+
+  -- nodes have the rows of their places
+  merged-nodes : (nodes : List Node) (into : List ℤ) → merged_row dp k into (map (λ place. of_row (row place)) (rows_in nodes)) ≡ merged_row dp k into (map (bare row) nodes)
+  merged-nodes [] into = refl
+  merged-nodes (node ∷ nodes) into = merged-nodes nodes (dp.merged k into (row node.row))
+
+  pub row-of-nodes : (nodes : List Node) → row_of_places dp k row (rows_in nodes) ≡ row_of_all dp k (map (bare row) nodes)
+  row-of-nodes [] = refl
+  row-of-nodes (node ∷ nodes) = merged-nodes nodes (row node.row)
+
+-- the rows of nodes are states
+pub states-in : (dp : Dp) (k : ℕ) (region : RegionView) (nodes : List Node) → Each (IsNodeIn dp k region) nodes → Each (IsStateIn dp k region) (rows_in nodes)
+states-in dp k region [] h = tt
+states-in dp k region (node ∷ nodes) h = (record { found = h.0.found; state = h.0.with_row.state }, states-in dp k region nodes h.1)
 
 -- ---- the value
 

@@ -1,14 +1,12 @@
 -- Keys that are merged, one after another.
 use Rattle.std.proofs.Common.{◌≡◌, ◌≢◌, ℕ, zero, suc, ◌+◌, ◌<◌, ◌≤◌, ℤ, pos, false, Bool, List, [], ◌∷◌, ◌++◌, length, map, take, drop, set, get_or, Option, Some, None, ◌⊎◌, inl, inr, unwrap_or, refl, sym, ◌∙◌, ap, ap₂, subst, append-nil, take-append-drop, arith}
-use Rattle.std.proofs.lemmas.List.{map-append, take_more, drop_more, drop_all, take_all, length-set, get_or-set_same, get_or-set_other, get_or-take, length-take-le}
+use Rattle.std.proofs.lemmas.List.{map-append, take_more, take_all, length-set, get_or-set_same, get_or-set_other, get_or-take, length-take-le}
 use Rattle.dp_model.specs.Dp.{Dp}
 use Rattle.dp_model.specs.Gaps.{IsStateOf}
-use Rattle.dp_model.specs.Laws.{IsLawful}
 use Rattle.dp_model.specs.Lists.{Each}
 use Rattle.dp_model.specs.Numbers.{add_some, greatest}
 use Rattle.dp_model.proofs.Members.{Each-append, Each-map, Each-then}
 use Rattle.dp_laws.specs.Pairs.{EachTwo}
-use Rattle.dp_laws.specs.Rules.Reducing.{merged_row}
 use Rattle.layer_candidates.specs.declared.key.Key.{Key}
 use Rattle.layer_candidates.proofs.HeldRows.{each-here, each-left, each-right, put-same, exchange-beside, exchange-then}
 use Rattle.layer_candidates.specs.declared.way.Way.{Way}
@@ -21,14 +19,15 @@ use Rattle.layer_nodes.specs.declared.routing.Route.{Route}
 use Rattle.layer_nodes.specs.Leading.{IsNodeBy, bare}
 use Rattle.layer_nodes.specs.Expanding.{key_in, number_at, IsNumbered, node_of}
 use Rattle.layer_nodes.specs.Holding.{HaveRows}
-use Rattle.layer_nodes.specs.Merging.{greater, lifted, merged_at}
+use Rattle.layer_nodes.specs.Merging.{IsStateIn, row_of_places, greater, lifted, merged_at}
 use Rattle.layer_nodes.specs.Reducing.{key_node, bare_keys, IsKeyNode, merged_route, row_of_keys, LeadHere, LeadToMerged, HasMergedKeys}
 use Rattle.layer_nodes.specs.Routing.{nowhere, route_at, IsPlain}
 use Rattle.layer_nodes.specs.Stored.{rows_in}
 use Rattle.layer_nodes.proofs.Exchanges.{rows-same, live-right, exchange-push}
 use Rattle.layer_nodes.proofs.KeyRows.{rows-of-nodes}
-use Rattle.layer_nodes.proofs.Merged.{lifted-push}
+use Rattle.layer_nodes.proofs.Merged.{row-of-nodes, lifted-push}
 use Rattle.layer_nodes.proofs.Routed.{plain-at}
+use Rattle.layer_nodes.proofs.Shown.{map-map}
 use Rattle.layer_nodes.proofs.Stored.{each-drop}
 
 -- ---- the row
@@ -40,31 +39,14 @@ IsKeyBy dp k row key = IsNodeBy dp k row (key_node key)
 pub keys-known : (dp : Dp) (k : ℕ) (region : RegionView) (keys : List Key) → Each (IsKeyNode dp k region) keys → Each (IsKeyBy dp k (held_row region)) keys
 keys-known dp k region keys h = Each-then (IsKeyNode dp k region) (IsKeyBy dp k (held_row region)) keys (λ key one. one.with_row) h
 
--- the first i rows were merged
-pub record AreMerging (dp : Dp) (k : ℕ) (row : ℕ → List ℤ) (keys : List Key) (into : List ℤ) (i : ℕ) : Type 0 where
-  pub merged : merged_row dp k into (bare_keys row (drop i keys)) ≡ row_of_keys dp k row keys
-  pub state : IsStateOf dp k into
+-- the rows of keys are states
+pub key-states : (dp : Dp) (k : ℕ) (region : RegionView) (keys : List Key) → Each (IsKeyNode dp k region) keys → Each (IsStateIn dp k region) (key_rows keys)
+key-states dp k region [] h = tt
+key-states dp k region (key ∷ keys) h = (record { found = h.0.found; state = h.0.with_row.state }, key-states dp k region keys h.1)
 
-module _ (dp : Dp) (k : ℕ) (row : ℕ → List ℤ) where
-  pub keys-first : (keys : List Key) (d : Key) (into : List ℤ) → 0 < length keys → Each (IsKeyBy dp k row) keys → into ≡ row (get_or keys 0 d).row → AreMerging dp k row keys into 1
-  keys-first [] d into some all is = absurd (omega arith)
-  keys-first (key ∷ keys) d into some all is = record {
-    merged = ap (λ r. merged_row dp k r (bare_keys row keys)) is;
-    state = subst (IsStateOf dp k) (sym is) all.0.state;
-  }
-
-  pub keys-more : IsLawful dp → (keys : List Key) (into into2 : List ℤ) (i : ℕ) (d : Key) → AreMerging dp k row keys into i → i < length keys → IsKeyBy dp k row (get_or keys i d)
-      → into2 ≡ dp.merged k into (row (get_or keys i d).row) → AreMerging dp k row keys into2 (i + 1)
-  keys-more laws keys into into2 i d h less key is =
-      let s = row (get_or keys i d).row in
-      record {
-        merged = ap (λ r. merged_row dp k r (bare_keys row (drop (i + 1) keys))) is
-            ∙ (sym (ap (λ l. merged_row dp k into (bare_keys row l)) (drop_more keys i d less)) ∙ h.merged);
-        state = subst (IsStateOf dp k) (sym is) (record { layer = h.state.layer; test = laws.states.merged k into s h.state key.state });
-      }
-
-  pub keys-all : (keys : List Key) (into : List ℤ) (i : ℕ) → AreMerging dp k row keys into i → length keys ≤ i → into ≡ row_of_keys dp k row keys
-  keys-all keys into i h end = sym (ap (λ l. merged_row dp k into (bare_keys row l)) (drop_all i keys end)) ∙ h.merged
+-- keys have the rows of their places
+pub row-of-keys : (dp : Dp) (k : ℕ) (row : ℕ → List ℤ) (keys : List Key) → row_of_places dp k row (key_rows keys) ≡ row_of_keys dp k row keys
+row-of-keys dp k row keys = ap (row_of_places dp k row) (sym (map-map (λ (node : Node). node.row) key_node keys)) ∙ row-of-nodes dp k row (map key_node keys)
 
 -- ---- the routes
 

@@ -1,5 +1,5 @@
 -- The last nodes of a layer are merged in memory into one.
-use Rattle.std.specs.Prelude.{◌≡◌, ℕ, ◌-◌, ℤ, int_lt, false, cond, List, [], ◌∷◌, ◌++◌, map, take, drop, Option, Some, None}
+use Rattle.std.specs.Prelude.{◌≡◌, ℕ, ◌-◌, ℤ, pos, int_lt, false, cond, List, [], ◌∷◌, ◌++◌, map, take, drop, Option, Some, None}
 use Rattle.std.specs.List.{filter_map}
 use Rattle.dp_model.specs.Dp.{Dp}
 use Rattle.dp_model.specs.Gaps.{IsStateOf}
@@ -15,6 +15,19 @@ use Rattle.layer_nodes.specs.Leading.{bare}
 use Rattle.layer_nodes.specs.Redirecting.{IsShort}
 use Rattle.layer_nodes.specs.Holding.{HaveRows}
 use Rattle.layer_nodes.specs.Stored.{rows_in}
+
+-- the region has a row at the place, which is a state of the layer at depth k
+pub record IsStateIn (dp : Dp) (k : ℕ) (region : RegionView) (place : ℕ) : Type 0 where
+  pub found : IsRow region place (held_row region place)
+  pub state : IsStateOf dp k (held_row region place)
+
+-- a node of which only the row is known
+abbrev pub of_row : List ℤ → DdNode
+of_row row = record { row = row; value = pos 0; exact = false; arcs = []; path = []; suffix = None }
+
+-- the row that the rows at the places are merged into
+abbrev pub row_of_places : Dp → ℕ → (ℕ → List ℤ) → List ℕ → List ℤ
+row_of_places dp k row places = row_of_all dp k (map (λ place. of_row (row place)) places)
 
 -- the greater of two numbers, of which none may be there
 abbrev pub greater : Option ℤ → Option ℤ → Option ℤ

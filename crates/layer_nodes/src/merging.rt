@@ -5,12 +5,12 @@ ghost use Rattle.dp_model.specs.Gaps.{IsStateOf};
 ghost use Rattle.dp_model.specs.Lists.{Each};
 ghost use Rattle.dp_model.specs.Numbers.{IsSmall, add_some, greatest};
 ghost use Rattle.dp_laws.specs.Rules.Redirects.{with_redirected};
-ghost use Rattle.dp_laws.specs.Rules.Reducing.{row_of_all, merged_layer, merge_redirect, merge_redirects};
+ghost use Rattle.dp_laws.specs.Rules.Reducing.{merged_layer, merge_redirect, merge_redirects};
 ghost use Rattle.layer_candidates.specs.HeldRows.{AreLive, HasExchanged, held_row};
 ghost use Rattle.layer_candidates.specs.Ways.{IsNearly};
 ghost use Rattle.layer_nodes.specs.Holding.{AreHeld, places_of};
 ghost use Rattle.layer_nodes.specs.Leading.{IsNodeIn, bare};
-ghost use Rattle.layer_nodes.specs.Merging.{greater, lifted, HasMerged};
+ghost use Rattle.layer_nodes.specs.Merging.{IsStateIn, row_of_places, greater, lifted, HasMerged};
 ghost use Rattle.layer_nodes.specs.Nodes.{shown_layer, shown_below};
 ghost use Rattle.layer_nodes.specs.Redirecting.{IsShort};
 ghost use Rattle.layer_nodes.specs.Steps.{IsNodeOf, IsRanked, MayBeLengthened, KeepsNodes, KeepsRoom};
@@ -21,7 +21,7 @@ use crate::leading::redirect_by;
 use crate::node::{Node, lone_node, nodes_from};
 use crate::redirecting::{Redirect, Redirects, redirect_layer_after};
 use dp_model::DpModel;
-use layer_candidates::{give_rows, put_row, row_of};
+use layer_candidates::{HasRow, give_rows, put_row, row_of};
 use row_region::Region;
 use std::snapshot::Snapshot;
 
@@ -51,24 +51,24 @@ pub(crate) fn greater(best: Option<i64>, other: Option<i64>) -> Option<i64>
     if z < y { Some(y) } else { Some(z) }
 }
 
-/// Writes the row into which the rows of the nodes are merged in order.
-fn merge_into_row<M: DpModel>(
+/// Writes the row into which the rows of the things are merged in order.
+pub(crate) fn merge_rows<M: DpModel, T: HasRow>(
     model: &M,
     k: usize,
     region: &Region,
-    nodes: &[Node],
+    things: &[T],
     into: &mut [i64],
 )
-    requires some { 0 < length nodes.now }
-    requires nodes { Each (IsNodeIn (M.meaning (M.numbers model.now)) k region.now) nodes.now }
+    requires some { 0 < length things.now }
+    requires states { Each (IsStateIn (M.meaning (M.numbers model.now)) k region.now) (map T.place things.now) }
     requires cells { length into.old ≡ (M.meaning (M.numbers model.now)).words }
-    ensures merged { into.new ≡ row_of_all (M.meaning (M.numbers model.now)) k (map (bare (held_row region.now)) nodes.now) }
+    ensures merged { into.new ≡ row_of_places (M.meaning (M.numbers model.now)) k (held_row region.now) (map T.place things.now) }
     ensures state { IsStateOf (M.meaning (M.numbers model.now)) k into.new }
     ensures cells { length into.new ≡ (M.meaning (M.numbers model.now)).words }
 {
-    into.copy_from_slice(row_of(region, nodes[0].row));
-    'nodes: for i in 1..nodes.len() {
-        model.merge_into(k, into, row_of(region, nodes[i].row));
+    into.copy_from_slice(row_of(region, things[0].row()));
+    'things: for i in 1..things.len() {
+        model.merge_into(k, into, row_of(region, things[i].row()));
     }
 }
 
@@ -155,7 +155,7 @@ fn merge_nodes<M: DpModel>(
 {
     let first = width - 1;
     let last = nodes_from(nodes.as_slice(), first);
-    merge_into_row(model, k, region, last, into);
+    merge_rows(model, k, region, last, into);
     let rank = model.rank(k, into);
     let hash = model.hash(k, into);
     redirects.clear();

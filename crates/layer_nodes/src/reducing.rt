@@ -8,10 +8,10 @@ ghost use Rattle.dp_laws.specs.Pairs.{EachTwo};
 ghost use Rattle.layer_candidates.specs.HeldRows.{AreLive, held_row};
 ghost use Rattle.layer_candidates.specs.KeyOrder.{key_rows};
 ghost use Rattle.layer_nodes.specs.Merging.{lifted};
-ghost use Rattle.layer_nodes.specs.Reducing.{key_node, bare_keys, IsKeyNode, AreInexact, merged_route, row_of_keys, LeadToMerged, HasMergedKeys};
+ghost use Rattle.layer_nodes.specs.Reducing.{key_node, bare_keys, IsKeyNode, AreInexact, merged_route, LeadToMerged, HasMergedKeys};
 ghost use Rattle.layer_nodes.specs.Routing.{route_at};
 
-use crate::merging::{MergedRow, gap_to, greater, lifted};
+use crate::merging::{MergedRow, gap_to, greater, lifted, merge_rows};
 use crate::node::{Node, lone_node};
 use crate::numbering::{list_nodes, number_ways};
 use crate::routing::{Route, nowhere};
@@ -37,21 +37,6 @@ pub(crate) fn are_inexact(keys: &[Key], marks: &[bool]) -> bool
         }
     }
     true
-}
-
-/// Writes the row into which the rows of the keys are merged.
-fn merge_key_rows<M: DpModel>(model: &M, k: usize, region: &Region, keys: &[Key], into: &mut [i64])
-    requires some { 0 < length keys.now }
-    requires keys { Each (IsKeyNode (M.meaning (M.numbers model.now)) k region.now) keys.now }
-    requires cells { length into.old ≡ (M.meaning (M.numbers model.now)).words }
-    ensures merged { into.new ≡ row_of_keys (M.meaning (M.numbers model.now)) k (held_row region.now) keys.now }
-    ensures state { IsStateOf (M.meaning (M.numbers model.now)) k into.new }
-    ensures cells { length into.new ≡ (M.meaning (M.numbers model.now)).words }
-{
-    into.copy_from_slice(row_of(region, keys[0].row));
-    'keys: for i in 1..keys.len() {
-        model.merge_into(k, into, row_of(region, keys[i].row));
-    }
 }
 
 /// The route to the merged node at the place, lengthened by the gap, or none where there is no gap.
@@ -141,7 +126,7 @@ pub(crate) fn merge_keys<M: DpModel>(
     let front = &keys[..first];
     let last = keys_from(keys, first);
     number_ways(front, ways.len(), routes);
-    merge_key_rows(model, k, region, last, into);
+    merge_rows(model, k, region, last, into);
     let rank = model.rank(k, into);
     let hash = model.hash(k, into);
     let merged = MergedRow {

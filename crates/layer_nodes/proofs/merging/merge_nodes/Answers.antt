@@ -7,21 +7,22 @@ use Rattle.dp_laws.specs.Rules.Reducing.{row_of_all, merge_redirect}
 use Rattle.layer_candidates.specs.HeldRows.{AreLive, HasExchanged, held_row}
 use Rattle.layer_nodes.specs.declared.node.Node.{Node}
 use Rattle.layer_nodes.specs.Leading.{IsNodeIn, bare}
-use Rattle.layer_nodes.specs.Merging.{lifted}
+use Rattle.layer_nodes.specs.Merging.{IsStateIn, lifted}
 use Rattle.layer_nodes.specs.Stored.{rows_in}
 use Rattle.layer_nodes.proofs.Exchanges.{following-live}
 use Rattle.layer_nodes.proofs.Given.{rows-found}
-use Rattle.layer_nodes.proofs.Merged.{has-merged}
+use Rattle.layer_nodes.proofs.Merged.{states-in, row-of-nodes, has-merged}
 use Rattle.layer_nodes.proofs.Stored.{each-drop}
 use Rattle.layer_nodes.proofs.merging.merge_nodes.Goals as goal
 
-pub merge_into_row-requires-clause-nodes : goal.merge_into_row-requires-clause-nodes
-merge_into_row-requires-clause-nodes g c κs within =
+pub merge_rows-requires-clause-states : goal.merge_rows-requires-clause-states
+merge_rows-requires-clause-states g c κs within =
     let dp = g.M.DpModel.meaning (g.M.DpModel.numbers c.args.model.now) in
     let a = c.args in
     let first = a.width - 1 in
     let last : c.nodes_from-last.result.now ≡ drop first a.nodes.now.items = c.nodes_from-last.ensures ∙ ap (drop first) c.as_slice.ensures.value in
-    subst (Each (IsNodeIn dp a.k a.region.now)) (sym last) (each-drop (IsNodeIn dp a.k a.region.now) first a.nodes.now.items c.requires.nodes)
+    subst (λ l. Each (IsStateIn dp a.k a.region.now) (rows_in l)) (sym last)
+    (states-in dp a.k a.region.now (drop first a.nodes.now.items) (each-drop (IsNodeIn dp a.k a.region.now) first a.nodes.now.items c.requires.nodes))
 
 pub merge_targets-best-requires-clause-redirects_room : goal.merge_targets-best-requires-clause-redirects_room
 merge_targets-best-requires-clause-redirects_room g c =
@@ -60,13 +61,13 @@ returns-clause-merged g c =
     let nodes = a.nodes.now.items in
     let now = c.give_rows.new.region in
     let new = c.put_row-place.new.region in
-    let into = c.merge_into_row.new.into in
+    let into = c.merge_rows.new.into in
     let last : c.nodes_from-last.result.now ≡ drop first nodes = c.nodes_from-last.ensures ∙ ap (drop first) c.as_slice.ensures.value in
     has-merged dp a.k a.width old now new nodes into c.put_row-place.result c.requires.live (subst (λ l. HasExchanged old (rows_in l) now []) last c.give_rows.ensures) c.put_row-place.ensures
-    (c.merge_into_row.ensures.cells ∙ sym (c.give_rows.ensures.words ∙ c.requires.words))
+    (c.merge_rows.ensures.cells ∙ sym (c.give_rows.ensures.words ∙ c.requires.words))
     (rows-found dp a.k old nodes c.requires.nodes)
-    (c.merge_into_row.ensures.merged ∙ ap (λ l. row_of_all dp a.k (map (bare (held_row old)) l)) last)
-    c.merge_into_row.ensures.state
+    (c.merge_rows.ensures.merged ∙ (row-of-nodes dp a.k (held_row old) c.nodes_from-last.result.now ∙ ap (λ l. row_of_all dp a.k (map (bare (held_row old)) l)) last))
+    c.merge_rows.ensures.state
     c.merge_targets-best.result c.merge_targets-best.new.redirects.items c.lone_node.result c.push_reserved.new.self.items
     (c.merge_targets-best.ensures.value ∙ ap (λ l. greatest (lifted dp a.k into (map (bare (held_row old)) l))) last)
     (c.merge_targets-best.ensures.redirects ∙ ap₂ (λ s l. s ++ map (merge_redirect dp a.k first into) (map (bare (held_row old)) l)) c.clear.ensures.items last)
