@@ -93,8 +93,8 @@ class Solver:
         After `timeout` seconds, or at Ctrl-C, the program is killed, and asked what the journal holds: the solution and the bound of
         the result are the program's own. A timeout gives a result that is `STOPPED`; Ctrl-C raises `Interrupted`, which has the result.
 
-        The journal is `journal`, a file that must not hold one yet. Without a name it lies in the folder for temporary files, and is
-        removed where the search ends by itself. `journal=False` keeps none: that is faster, and a timeout then leaves nothing.
+        The journal is `journal`, a file that must not hold one yet. Without a name it lies in the folder for temporary files. It stays there
+        if the search was stopped, and is removed otherwise. `journal=False` keeps none: that is faster, and a timeout then leaves nothing.
 
         `progress` is called about each `every` seconds with what the journal tells, and not at all where none is kept. The other
         options are those of docs/FORMATS.md.
