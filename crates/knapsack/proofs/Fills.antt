@@ -3,6 +3,7 @@ use Rattle.std.proofs.Common.{◌≡◌, ℕ, ◌+◌, ◌-◌, ◌*◌, ◌/◌
 use Rattle.std.proofs.lemmas.Bool.{lt-ltb, le-ltb}
 use Rattle.std.proofs.lemmas.Bool.Decides.{nat_tests}
 use Rattle.std.proofs.lemmas.Nat.{le-div, mul-le, div_below}
+use Rattle.std.proofs.Math.Nat.{div-mul-le_self, mul-add-div_right}
 use Rattle.knapsack.specs.declared.item.Item.{Item}
 use Rattle.knapsack.specs.Limits.{IsSmallItem}
 use Rattle.knapsack.specs.Order.{fitting, fill}
@@ -57,3 +58,16 @@ part_small x rest small h =
     let less = part-le-copy x.profit x.weight (rest / x.weight) x.copies rest (weighs x rest h) refl (few_fit x rest h) in
     let most : x.copies * x.profit ≤ 1000 * 1000000000 = mul-le x.copies x.profit 1000 1000000000 small.copies small.profit in
     omega arith
+
+-- whole copies and the part of one more are worth what their weight is, rounded down
+division_joined : (rest w p : ℕ) → 0 < w → rest * p / w ≡ rest / w * p + (rest - rest / w * w) * p / w
+division_joined rest w p some =
+    let q = rest / w in
+    let r = rest - q * w in
+    let whole : rest ≡ q * w + r = omega (arith, div-mul-le_self rest w) in
+    let product : rest * p ≡ q * p * w + r * p = ap (λ (n : ℕ). n * p) whole ∙ omega arith in
+    ap (λ (n : ℕ). n / w) product ∙ mul-add-div_right some (q * p) (r * p)
+
+pub one_division : (x : Item) (rest : ℕ) → rest < x.copies * x.weight
+    → rest * x.profit / x.weight ≡ rest / x.weight * x.profit + (rest - rest / x.weight * x.weight) * x.profit / x.weight
+one_division x rest h = division_joined rest x.weight x.profit (weighs x rest h)

@@ -11,7 +11,7 @@ use crate::item::Item;
 use crate::running::Run;
 
 /// What the part of an item is worth that fits, rounded down, where not all copies fit.
-#[tactic(auto, using(crate::proofs::Fills::part_small))]
+#[tactic(auto, using(crate::proofs::Fills::part_small, crate::proofs::Fills::one_division))]
 fn part(item: Item, rest: u64) -> u64
     requires small { IsSmallItem item }
     requires part { rest < item.copies * item.weight }
@@ -20,6 +20,9 @@ fn part(item: Item, rest: u64) -> u64
 {
     let weight = u64::from(item.weight);
     let profit = u64::from(item.profit);
+    if rest <= u64::from(u32::MAX) {
+        return rest * profit / weight;
+    }
     let copies = rest / weight;
     copies * profit + (rest - copies * weight) * profit / weight
 }
