@@ -166,6 +166,16 @@ impl DpModel for Knapsack {
         self.left(s) as i64
     }
 
+    #[inline]
+    fn next_choice(&self, k: usize, s: &[i64], from: u32) -> u32 {
+        let choices = self.choices(k);
+        if from < choices && self.allowed(k, s, from) {
+            from
+        } else {
+            choices
+        }
+    }
+
     fn bucket(&self, _k: usize, _s: &[i64]) -> u64 {
         0
     }
