@@ -1,13 +1,13 @@
 -- The greedy fill, item by item.
-use Rattle.std.proofs.Common.{◌≡◌, ℕ, ◌+◌, ◌-◌, ◌*◌, ◌/◌, ◌<◌, ◌≤◌, Bool, true, false, cond, List, ◌∷◌, refl, ap, ◌∙◌, arith, ltb, eqb}
+use Rattle.std.proofs.Common.{◌≡◌, ℕ, ◌+◌, ◌-◌, ◌*◌, ◌/◌, ◌<◌, ◌≤◌, Bool, true, false, cond, List, ◌∷◌, refl, sym, ap, ◌∙◌, arith, ltb, eqb}
 use Rattle.std.proofs.lemmas.Bool.{lt-ltb, le-ltb}
 use Rattle.std.proofs.lemmas.Bool.Decides.{nat_tests}
 use Rattle.std.proofs.lemmas.Nat.{le-div, mul-le, div_below}
-use Rattle.std.proofs.Math.Nat.{div-mul-le_self, mul-add-div_right}
+use Rattle.std.proofs.Math.Nat.{div-mul-le_self, mul-add-div_right, div-le_of_le-mul}
 use Rattle.knapsack.specs.declared.item.Item.{Item}
-use Rattle.knapsack.specs.Limits.{IsSmallItem}
+use Rattle.knapsack.specs.declared.running.Begun.{Begun}
 use Rattle.knapsack.specs.Order.{fitting, fill}
-use Rattle.knapsack.specs.Laws.Greedy.{part-le-copy}
+use Rattle.knapsack.specs.Runs.{part_of, IsPart}
 
 -- an item of which not all copies fit weighs something
 some_weight : (c w rest : ℕ) → rest < c * w → 0 < w
@@ -44,30 +44,28 @@ fill-whole x xs rest h =
     ap (λ (q : ℕ). cond (ltb q x.copies) (q * x.profit + (rest - q * x.weight) * x.profit / x.weight) (q * x.profit + fill xs (rest - q * x.weight))) (fitting-whole x rest h)
     ∙ ap (λ (b : Bool). cond b (x.copies * x.profit + (rest - x.copies * x.weight) * x.profit / x.weight) (x.copies * x.profit + fill xs (rest - x.copies * x.weight))) (le-ltb x.copies x.copies (omega arith))
 
-pub fill-part : (x : Item) (xs : List Item) (rest : ℕ) → rest < x.copies * x.weight
-    → fill (x ∷ xs) rest ≡ rest / x.weight * x.profit + (rest - rest / x.weight * x.weight) * x.profit / x.weight
+-- whole copies and the part of one more are worth what their weight is, rounded down
+pub two_divisions : (rest p w : ℕ) → 0 < w → rest / w * p + (rest - rest / w * w) * p / w ≡ rest * p / w
+two_divisions rest p w some =
+    let q = rest / w in
+    let r = rest - q * w in
+    let whole : q * w + r ≡ rest = omega (arith, div-mul-le_self rest w) in
+    let product : q * p * w + r * p ≡ rest * p = omega arith ∙ ap (λ (n : ℕ). n * p) whole in
+    sym (mul-add-div_right some (q * p) (r * p)) ∙ ap (λ (n : ℕ). n / w) product
+
+pub fill-part : (x : Item) (xs : List Item) (rest : ℕ) → rest < x.copies * x.weight → fill (x ∷ xs) rest ≡ rest * x.profit / x.weight
 fill-part x xs rest h =
     let q = rest / x.weight in
     ap (λ (q : ℕ). cond (ltb q x.copies) (q * x.profit + (rest - q * x.weight) * x.profit / x.weight) (q * x.profit + fill xs (rest - q * x.weight))) (fitting-part x rest h)
-    ∙ ap (λ (b : Bool). cond b (q * x.profit + (rest - q * x.weight) * x.profit / x.weight) (q * x.profit + fill xs (rest - q * x.weight))) (lt-ltb q x.copies (few_fit x rest h))
+    ∙ (ap (λ (b : Bool). cond b (q * x.profit + (rest - q * x.weight) * x.profit / x.weight) (q * x.profit + fill xs (rest - q * x.weight))) (lt-ltb q x.copies (few_fit x rest h))
+    ∙ two_divisions rest x.profit x.weight (weighs x rest h))
+
+-- where the items end, nothing is worth anything
+pub no_part : (before rest : ℕ) → part_of (record { before = before; profit = 0; weight = 0 }) rest ≡ 0
+no_part before rest = omega arith
 
 -- what a part of an item within the limits is worth
-pub part_small : (x : Item) (rest : ℕ) → IsSmallItem x → rest < x.copies * x.weight
-    → rest / x.weight * x.profit + (rest - rest / x.weight * x.weight) * x.profit / x.weight ≤ 1000000000000
-part_small x rest small h =
-    let less = part-le-copy x.profit x.weight (rest / x.weight) x.copies rest (weighs x rest h) refl (few_fit x rest h) in
-    let most : x.copies * x.profit ≤ 1000 * 1000000000 = mul-le x.copies x.profit 1000 1000000000 small.copies small.profit in
-    omega arith
-
--- whole copies and the part of one more are worth what their weight is, rounded down
-division_joined : (rest w p : ℕ) → 0 < w → rest * p / w ≡ rest / w * p + (rest - rest / w * w) * p / w
-division_joined rest w p some =
-    let q = rest / w in
-    let r = rest - q * w in
-    let whole : rest ≡ q * w + r = omega (arith, div-mul-le_self rest w) in
-    let product : rest * p ≡ q * p * w + r * p = ap (λ (n : ℕ). n * p) whole ∙ omega arith in
-    ap (λ (n : ℕ). n / w) product ∙ mul-add-div_right some (q * p) (r * p)
-
-pub one_division : (x : Item) (rest : ℕ) → rest < x.copies * x.weight
-    → rest * x.profit / x.weight ≡ rest / x.weight * x.profit + (rest - rest / x.weight * x.weight) * x.profit / x.weight
-one_division x rest h = division_joined rest x.weight x.profit (weighs x rest h)
+pub part_small : (b : Begun) (rest : ℕ) → IsPart b rest → 0 < b.weight → rest * b.profit / b.weight ≤ 1000000000000
+part_small b rest part some =
+    let most : rest * b.profit ≤ 1000 * b.weight * 1000000000 = mul-le rest b.profit (1000 * b.weight) 1000000000 (part.few some) part.profit in
+    div-le_of_le-mul b.weight (omega arith)

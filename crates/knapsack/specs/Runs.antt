@@ -1,35 +1,43 @@
 -- Running sums of items in order: where each one begins, in weight and in profit.
-use Rattle.std.specs.Prelude.{◌≡◌, ℕ, ◌+◌, ◌-◌, ◌*◌, ◌/◌, ◌<◌, ◌≤◌, true, cond, nat_lt, List, [], ◌∷◌, length, slice_index_or, Vec}
-use Rattle.std.specs.declared.alloc.Global.{Global}
-use Rattle.std.specs.List.{list_all}
+use Rattle.std.specs.Prelude.{◌≡◌, ℕ, ◌+◌, ◌*◌, ◌/◌, ◌<◌, ◌≤◌, List, [], ◌∷◌, length, slice_index_or}
 use Rattle.knapsack.specs.declared.item.Item.{Item}
 use Rattle.knapsack.specs.declared.placed.Placed.{Placed}
-use Rattle.knapsack.specs.declared.running.Run.{Run}
-use Rattle.knapsack.specs.Instance.{is_small_item}
+use Rattle.knapsack.specs.declared.running.Begun.{Begun}
+use Rattle.knapsack.specs.declared.running.Runs.{Runs}
+use Rattle.knapsack.specs.Limits.{AreSmall}
 use Rattle.knapsack.specs.Placed.{kept_from}
 
--- an item that is not there
-abbrev pub no_item : Item
-no_item = record { profit = 0; weight = 0; copies = 0 }
+-- what the items before each place weigh, where so much weighs before the first
+abbrev pub weights_of : ℕ → List Item → List ℕ
+weights_of weight [] = weight ∷ []
+weights_of weight (x ∷ xs) = weight ∷ weights_of (weight + x.copies * x.weight) xs
 
--- the runs of items where so much weight and profit comes before them, and a last one where they end
-abbrev pub runs_of : ℕ → ℕ → List Item → List Run
-runs_of weight profit [] = record { weight = weight; profit = profit; item = no_item } ∷ []
-runs_of weight profit (x ∷ xs) =
-    record { weight = weight; profit = profit; item = x } ∷ runs_of (weight + x.copies * x.weight) (profit + x.copies * x.profit) xs
+-- what begins at each place, where the items before the first are worth so much
+abbrev pub begun_of : ℕ → List Item → List Begun
+begun_of before [] = record { before = before; profit = 0; weight = 0 } ∷ []
+begun_of before (x ∷ xs) = record { before = before; profit = x.profit; weight = x.weight } ∷ begun_of (before + x.copies * x.profit) xs
 
--- what the part of an item is worth that fits, rounded down, where not all copies fit, and else nothing
-abbrev pub part_of : Item → ℕ → ℕ
-part_of x rest = cond (nat_lt rest (x.copies * x.weight)) (rest / x.weight * x.profit + (rest - rest / x.weight * x.weight) * x.profit / x.weight) 0
+-- what so much weight of an item is worth, rounded down; a quotient by 0 is 0
+abbrev pub part_of : Begun → ℕ → ℕ
+part_of b rest = rest * b.profit / b.weight
+
+-- no more than what 1,000 copies of an item within the limits weigh, or the end
+pub record IsPart (b : Begun) (rest : ℕ) : Type 0 where
+  pub profit : b.profit ≤ 1000000000
+  pub few : 0 < b.weight → rest ≤ 1000 * b.weight
+
+-- the runs of these items
+pub record AreRunsOf (items : List Item) (runs : Runs) : Type 0 where
+  pub weights : runs.weights.items ≡ weights_of 0 items
+  pub begun : runs.begun.items ≡ begun_of 0 items
 
 -- the runs of at most 1,000 items within the limits
-pub record AreRuns (runs : List Run) : Type 0 where
+pub record AreRuns (runs : Runs) : Type 0 where
   pub items : List Item
-  pub are : runs ≡ runs_of 0 0 items
-  pub few : length items ≤ 1000
-  pub small : list_all is_small_item items ≡ true
+  pub small : AreSmall items
+  pub are : AreRunsOf items runs
 
 -- for each layer, and for the end, the runs of the items from it on
-pub record AreRunLayers (order : List Placed) (layers : List (Vec Run Global)) : Type 0 where
+pub record AreRunLayers (order : List Placed) (layers : List Runs) : Type 0 where
   pub many : length layers ≡ length order + 1
-  pub each : (k : ℕ) (d : Vec Run Global) → k < length layers → (slice_index_or layers k d).items ≡ runs_of 0 0 (kept_from k order)
+  pub each : (k : ℕ) (d : Runs) → k < length layers → AreRunsOf (kept_from k order) (slice_index_or layers k d)

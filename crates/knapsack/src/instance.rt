@@ -6,7 +6,7 @@ ghost use Rattle.knapsack.specs.Runs.{AreRunLayers};
 use crate::item::Item;
 use crate::ordering::ordered;
 use crate::placed::Placed;
-use crate::running::{Run, runs_by_layer};
+use crate::running::{Runs, runs_by_layer};
 use std::alloc::{AllocError, Global};
 
 /// A bounded knapsack within the limits: at most 1,000 items, profits and weights of at most 10^9, at most 1,000 copies of
@@ -17,7 +17,7 @@ pub struct Knapsack {
     pub(crate) items: Vec<Item>,
     pub(crate) order: Vec<Placed>,
     // For each layer, and for the end, the runs of the items from it on.
-    pub(crate) runs: Vec<Vec<Run>>,
+    pub(crate) runs: Vec<Runs>,
     ghost small: { IsTrue (is_small (record { capacity = capacity; items = items.items })) },
     ghost ordered: { order.items ≡ placed_from 0 items.items },
     ghost layered: { AreRunLayers order.items runs.items },

@@ -1,41 +1,48 @@
-use Rattle.std.proofs.Common.{◌≡◌, ◌-◌, arith, ap, sym, ◌∙◌}
-use Rattle.knapsack.specs.declared.running.Run.{Run}
-use Rattle.knapsack.specs.Runs.{no_item}
-use Rattle.knapsack.proofs.RunLemmas.{Begun, begun_at, runs_same}
+use Rattle.std.proofs.Common.{◌≡◌, ◌-◌, arith, ap, sym, ◌∙◌, subst}
+use Rattle.std.specs.List.Sorted.{IsNonDecreasing}
 use Rattle.knapsack.specs.Order.{fill}
+use Rattle.knapsack.proofs.RunLemmas.{last_begun, last_run, weights-rise}
 use Rattle.knapsack.proofs.filling.filled.Goals as goal
 
-abbrev none : Run
-none = record { weight = 0; profit = 0; item = no_item }
+pub count_within-place-requires : goal.count_within-place-requires
+count_within-place-requires c = subst IsNonDecreasing (sym (c.deref.ensures.value ∙ c.requires.are.weights)) (weights-rise 0 c.requires.items)
 
-begun : (c : goal.After-begun-place) → Begun c.args.runs.now c.requires.items c.args.room c.begun-place.result none
-begun c = begun_at c.args.runs.now c.requires.items c.args.room c.begun-place.result none c.requires.are c.requires.small c.begun-place.ensures.within c.begun-place.ensures.point
+pub overflow_sub-place : goal.overflow_sub-place
+overflow_sub-place c =
+    (last_begun c.requires.items c.args.runs.now c.args.room c.count_within-place.result c.deref.result.now c.requires.small c.requires.are c.deref.ensures.value c.count_within-place.ensures.within c.count_within-place.ensures.point).some
 
-pub overflow_sub-run : goal.overflow_sub-run
-overflow_sub-run c = let own = begun c in omega (arith, own.some)
+pub index-begun-requires : goal.index-begun-requires
+index-begun-requires c =
+    let last = last_begun c.requires.items c.args.runs.now c.args.room c.count_within-place.result c.deref.result.now c.requires.small c.requires.are c.deref.ensures.value c.count_within-place.ensures.within c.count_within-place.ensures.point in
+    let within = last.begun in
+    omega arith
 
-pub bounds-runs-place : goal.bounds-runs-place
-bounds-runs-place c = (begun c).inside
+pub index-requires : goal.index-requires
+index-requires c =
+    let last = last_begun c.requires.items c.args.runs.now c.args.room c.count_within-place.result c.deref.result.now c.requires.small c.requires.are c.deref.ensures.value c.count_within-place.ensures.within c.count_within-place.ensures.point in
+    let within = last.weight in
+    omega arith
 
 pub overflow_sub-room : goal.overflow_sub-room
 overflow_sub-room c =
-    (begun_at c.args.runs.now c.requires.items c.args.room c.begun-place.result none c.requires.are c.requires.small c.begun-place.ensures.within c.begun-place.ensures.point).run.begins
+    let last = last_begun c.requires.items c.args.runs.now c.args.room c.count_within-place.result c.deref.result.now c.requires.small c.requires.are c.deref.ensures.value c.count_within-place.ensures.within c.count_within-place.ensures.point in
+    (last_run c.requires.items c.args.runs.now c.args.room c.count_within-place.result c.index.result.now c.index-begun.result.now last c.index.ensures c.index-begun.ensures).begins
 
-pub part_within-requires : goal.part_within-requires
-part_within-requires c =
-    (begun_at c.args.runs.now c.requires.items c.args.room c.begun-place.result none c.requires.are c.requires.small c.begun-place.ensures.within c.begun-place.ensures.point).run.small
+pub part-requires : goal.part-requires
+part-requires c =
+    let last = last_begun c.requires.items c.args.runs.now c.args.room c.count_within-place.result c.deref.result.now c.requires.small c.requires.are c.deref.ensures.value c.count_within-place.ensures.within c.count_within-place.ensures.point in
+    (last_run c.requires.items c.args.runs.now c.args.room c.count_within-place.result c.index.result.now c.index-begun.result.now last c.index.ensures c.index-begun.ensures).part
 
 pub overflow_add-result : goal.overflow_add-result
 overflow_add-result c =
-    let own = begun_at c.args.runs.now c.requires.items c.args.room c.begun-place.result none c.requires.are c.requires.small c.begun-place.ensures.within c.begun-place.ensures.point in
-    let profit = own.run.profit in
-    omega (arith, c.requires.few, c.part_within.ensures.small)
+    let last = last_begun c.requires.items c.args.runs.now c.args.room c.count_within-place.result c.deref.result.now c.requires.small c.requires.are c.deref.ensures.value c.count_within-place.ensures.within c.count_within-place.ensures.point in
+    let before = (last_run c.requires.items c.args.runs.now c.args.room c.count_within-place.result c.index.result.now c.index-begun.result.now last c.index.ensures c.index-begun.ensures).before in
+    omega (arith, c.requires.small.count, c.part.ensures.small)
 
 pub returns : goal.returns
-returns c items are =
-    let own = begun_at c.args.runs.now c.requires.items c.args.room c.begun-place.result none c.requires.are c.requires.small c.begun-place.ensures.within c.begun-place.ensures.point in
-    let same : c.requires.items ≡ items = runs_same c.requires.items items 0 0 0 0 none (sym c.requires.are ∙ are) in
-    let part = c.part_within.ensures.value in
-    let value = own.run.value in
-    let whole : fill c.requires.items (c.args.room - 0) ≡ fill items c.args.room = ap (λ xs. fill xs (c.args.room - 0)) same ∙ ap (fill items) (omega arith) in
-    omega arith
+returns c items small are =
+    let last = last_begun items c.args.runs.now c.args.room c.count_within-place.result c.deref.result.now small are c.deref.ensures.value c.count_within-place.ensures.within c.count_within-place.ensures.point in
+    let value = (last_run items c.args.runs.now c.args.room c.count_within-place.result c.index.result.now c.index-begun.result.now last c.index.ensures c.index-begun.ensures).value in
+    let part = c.part.ensures.value in
+    let room : c.args.room - 0 ≡ c.args.room = omega arith in
+    omega (arith, ap (fill items) room)

@@ -3,7 +3,7 @@ use Rattle.std.specs.List.{flat_map}
 use Rattle.std.proofs.lemmas.List.{drop_more, drop_all, append-nil}
 use Rattle.knapsack.specs.declared.item.Item.{Item}
 use Rattle.knapsack.specs.Printing.{line_of}
-use Rattle.knapsack.specs.Runs.{no_item}
+use Rattle.knapsack.proofs.Placing.{no_item}
 use Rattle.knapsack.proofs.printing.push_items.Goals as goal
 
 -- the line of one item more

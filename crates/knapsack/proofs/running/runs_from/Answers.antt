@@ -7,12 +7,13 @@ use Rattle.std.proofs.lemmas.List.Sums.{AllPass-from_list_all}
 use Rattle.std.proofs.lemmas.Nat.{mul-le}
 use Rattle.knapsack.specs.declared.item.Item.{Item}
 use Rattle.knapsack.specs.declared.placed.Placed.{Placed}
-use Rattle.knapsack.specs.declared.running.Run.{Run}
+use Rattle.knapsack.specs.declared.running.Begun.{Begun}
 use Rattle.knapsack.specs.Instance.{is_small_item}
 use Rattle.knapsack.specs.Limits.{IsSmallItem}
 use Rattle.knapsack.specs.Laws.Limits.{is_small_item-is}
 use Rattle.knapsack.specs.Placed.{kept_from}
-use Rattle.knapsack.specs.Runs.{no_item, runs_of}
+use Rattle.knapsack.specs.Runs.{weights_of, begun_of}
+use Rattle.knapsack.proofs.Placing.{no_item}
 use Rattle.knapsack.proofs.running.runs_from.Goals as goal
 
 abbrev none : Placed
@@ -24,42 +25,50 @@ small-at order i h below = is_small_item-is _ (All-get_or (λ p. is_small_item p
 light : (x : Item) → IsSmallItem x → x.copies * x.weight ≤ 1000 * 1000000000
 light x small = mul-le x.copies x.weight 1000 1000000000 small.copies small.weight
 
--- an item before the layer begins no run
-passed : (order : List Placed) (layer i weight profit : ℕ) (runs whole : List Run) → i < length order → (get_or order i none).number < layer
-    → runs ++ runs_of weight profit (kept_from layer (drop i order)) ≡ whole → runs ++ runs_of weight profit (kept_from layer (drop (i + 1) order)) ≡ whole
-passed order layer i weight profit runs whole h before so_far =
+-- an item before the layer is left out
+passed : (order : List Placed) (layer i : ℕ) → i < length order → (get_or order i none).number < layer → kept_from layer (drop i order) ≡ kept_from layer (drop (i + 1) order)
+passed order layer i h before =
     let p : Placed = get_or order i none in
     let rest : List Item = kept_from layer (drop (i + 1) order) in
-    let cut : kept_from layer (drop i order) ≡ rest = ap (kept_from layer) (drop_more order i none h) ∙ ap (λ b. cond b rest (p.item ∷ rest)) (lt-ltb p.number layer before) in
-    rw cut at so_far
+    ap (kept_from layer) (drop_more order i none h) ∙ ap (λ b. cond b rest (p.item ∷ rest)) (lt-ltb p.number layer before)
 
--- the run of one item more
-begun : (order : List Placed) (layer i weight profit heavier worth : ℕ) (runs more whole : List Run) → i < length order → layer ≤ (get_or order i none).number
-    → more ≡ runs ++ record { weight = weight; profit = profit; item = (get_or order i none).item } ∷ []
-    → heavier ≡ (get_or order i none).item.copies * (get_or order i none).item.weight → worth ≡ (get_or order i none).item.copies * (get_or order i none).item.profit
-    → runs ++ runs_of weight profit (kept_from layer (drop i order)) ≡ whole → more ++ runs_of (weight + heavier) (profit + worth) (kept_from layer (drop (i + 1) order)) ≡ whole
-begun order layer i weight profit heavier worth runs more whole h following pushed heavy dear so_far =
+-- and every other one begins
+next : (order : List Placed) (layer i : ℕ) → i < length order → layer ≤ (get_or order i none).number
+    → kept_from layer (drop i order) ≡ (get_or order i none).item ∷ kept_from layer (drop (i + 1) order)
+next order layer i h following =
     let p : Placed = get_or order i none in
     let rest : List Item = kept_from layer (drop (i + 1) order) in
-    let run : Run = record { weight = weight; profit = profit; item = p.item } in
-    let cut : kept_from layer (drop i order) ≡ p.item ∷ rest = ap (kept_from layer) (drop_more order i none h) ∙ ap (λ b. cond b rest (p.item ∷ rest)) (le-ltb p.number layer following) in
-    rw (pushed, heavy, dear) (append_assoc runs (run ∷ []) (runs_of (weight + p.item.copies * p.item.weight) (profit + p.item.copies * p.item.profit) rest) ∙ rw cut at so_far)
+    ap (kept_from layer) (drop_more order i none h) ∙ ap (λ b. cond b rest (p.item ∷ rest)) (le-ltb p.number layer following)
 
-ended : (order : List Placed) (layer i weight profit : ℕ) (runs more whole : List Run) → length order ≤ i → more ≡ runs ++ record { weight = weight; profit = profit; item = no_item } ∷ []
-    → runs ++ runs_of weight profit (kept_from layer (drop i order)) ≡ whole → more ≡ whole
-ended order layer i weight profit runs more whole h pushed so_far = pushed ∙ rw (drop_all i order h) at so_far
+-- the weight before one item more
+weighed : (x : Item) (here rest : List Item) (weight more : ℕ) (weights pushed whole : List ℕ) → here ≡ x ∷ rest → pushed ≡ weights ++ weight ∷ [] → more ≡ x.copies * x.weight
+    → weights ++ weights_of weight here ≡ whole → pushed ++ weights_of (weight + more) rest ≡ whole
+weighed x here rest weight more weights pushed whole cut is heavy so_far =
+    rw (is, heavy) (append_assoc weights (weight ∷ []) (weights_of (weight + x.copies * x.weight) rest) ∙ rw cut at so_far)
+
+-- what begins with one item more
+entered : (x : Item) (here rest : List Item) (before more : ℕ) (begun pushed whole : List Begun) → here ≡ x ∷ rest
+    → pushed ≡ begun ++ record { before = before; profit = x.profit; weight = x.weight } ∷ [] → more ≡ x.copies * x.profit
+    → begun ++ begun_of before here ≡ whole → pushed ++ begun_of (before + more) rest ≡ whole
+entered x here rest before more begun pushed whole cut is dear so_far =
+    let here : Begun = record { before = before; profit = x.profit; weight = x.weight } in
+    rw (is, dear) (append_assoc begun (here ∷ []) (begun_of (before + x.copies * x.profit) rest) ∙ rw cut at so_far)
+
+none_left : (order : List Placed) (layer i : ℕ) → length order ≤ i → kept_from layer (drop i order) ≡ []
+none_left order layer i h = ap (kept_from layer) (drop_all i order h)
 
 pub loop-placed-init : goal.loop-placed-init
-loop-placed-init c = record { whole = rw c.in_ok-runs.ensures.items refl; light = omega arith; small = omega arith }
+loop-placed-init c = record { weights = rw c.in_ok-weights.ensures.items refl; begun = rw c.in_ok-begun.ensures.items refl; light = omega arith; small = omega arith }
 
 pub loop-placed-preserved-then-placed-layer : goal.loop-placed-preserved-then-placed-layer
-loop-placed-preserved-then-placed-layer c = record {
-  whole =
-      passed c.args.order.now c.args.layer c.loop-placed.placed-index c.loop-placed.weight c.loop-placed.profit c.loop-placed.runs.items _ c.loop-placed-test.true c.if-placed-layer.true
-      c.loop-placed.invariant.whole;
-  light = omega (arith, c.loop-placed.invariant.light);
-  small = omega (arith, c.loop-placed.invariant.small);
-}
+loop-placed-preserved-then-placed-layer c =
+    let cut = passed c.args.order.now c.args.layer c.loop-placed.placed-index c.loop-placed-test.true c.if-placed-layer.true in
+    record {
+      weights = rw cut at c.loop-placed.invariant.weights;
+      begun = rw cut at c.loop-placed.invariant.begun;
+      light = omega (arith, c.loop-placed.invariant.light);
+      small = omega (arith, c.loop-placed.invariant.small);
+    }
 
 pub whole_weight-weight-requires : goal.whole_weight-weight-requires
 whole_weight-weight-requires c = small-at c.args.order.now c.loop-placed.placed-index c.requires.small.items c.loop-placed-test.true
@@ -69,24 +78,28 @@ overflow_add-weight c =
     let most = light (get_or c.args.order.now c.loop-placed.placed-index none).item (small-at c.args.order.now c.loop-placed.placed-index c.requires.small.items c.loop-placed-test.true) in
     omega (arith, most, c.whole_weight-weight.ensures, c.loop-placed.invariant.light, c.requires.small.count)
 
-pub whole_profit-profit-requires : goal.whole_profit-profit-requires
-whole_profit-profit-requires c = small-at c.args.order.now c.loop-placed.placed-index c.requires.small.items c.loop-placed-test.true
+pub whole_profit-before-requires : goal.whole_profit-before-requires
+whole_profit-before-requires c = small-at c.args.order.now c.loop-placed.placed-index c.requires.small.items c.loop-placed-test.true
 
-pub overflow_add-profit : goal.overflow_add-profit
-overflow_add-profit c = omega (arith, c.whole_profit-profit.ensures.small, c.loop-placed.invariant.small, c.requires.small.count)
+pub overflow_add-before : goal.overflow_add-before
+overflow_add-before c = omega (arith, c.whole_profit-before.ensures.small, c.loop-placed.invariant.small, c.requires.small.count)
 
 pub loop-placed-preserved : goal.loop-placed-preserved
 loop-placed-preserved c =
-    let most = light (get_or c.args.order.now c.loop-placed.placed-index none).item (small-at c.args.order.now c.loop-placed.placed-index c.requires.small.items c.loop-placed-test.true) in
+    let x = (get_or c.args.order.now c.loop-placed.placed-index none).item in
+    let most = light x (small-at c.args.order.now c.loop-placed.placed-index c.requires.small.items c.loop-placed-test.true) in
+    let cut = next c.args.order.now c.args.layer c.loop-placed.placed-index c.loop-placed-test.true c.if-placed-layer.false in
     record {
-      whole =
-          begun c.args.order.now c.args.layer c.loop-placed.placed-index c.loop-placed.weight c.loop-placed.profit c.whole_weight-weight.result c.whole_profit-profit.result c.loop-placed.runs.items _ _
-          c.loop-placed-test.true c.if-placed-layer.false c.in_ok-push.ensures.items c.whole_weight-weight.ensures c.whole_profit-profit.ensures.value c.loop-placed.invariant.whole;
+      weights = weighed x _ _ c.loop-placed.weight c.whole_weight-weight.result c.loop-placed.weights.items _ _ cut c.in_ok-push.ensures.items c.whole_weight-weight.ensures c.loop-placed.invariant.weights;
+      begun = entered x _ _ c.loop-placed.before c.whole_profit-before.result c.loop-placed.begun.items _ _ cut c.in_ok-push-2.ensures.items c.whole_profit-before.ensures.value c.loop-placed.invariant.begun;
       light = omega (arith, most, c.whole_weight-weight.ensures, c.loop-placed.invariant.light);
-      small = omega (arith, c.whole_profit-profit.ensures.small, c.loop-placed.invariant.small);
+      small = omega (arith, c.whole_profit-before.ensures.small, c.loop-placed.invariant.small);
     }
 
 pub returns : goal.returns
 returns c =
-    ended c.args.order.now c.args.layer c.loop-placed.placed-index c.loop-placed.weight c.loop-placed.profit c.loop-placed.runs.items _ _ c.loop-placed-test.false c.in_ok-push-2.ensures.items
-    c.loop-placed.invariant.whole
+    let cut = none_left c.args.order.now c.args.layer c.loop-placed.placed-index c.loop-placed-test.false in
+    record {
+      weights = c.in_ok-push-3.ensures.items ∙ rw cut at c.loop-placed.invariant.weights;
+      begun = c.in_ok-push-4.ensures.items ∙ rw cut at c.loop-placed.invariant.begun;
+    }

@@ -5,7 +5,7 @@ use Rattle.std.proofs.lemmas.Nat.{mul-le}
 use Rattle.std.proofs.lemmas.Bool.{le-leb, lt-leb}
 use Rattle.knapsack.specs.declared.item.Item.{Item}
 use Rattle.knapsack.specs.Instance.{is_small_item}
-use Rattle.knapsack.specs.Runs.{no_item}
+use Rattle.knapsack.proofs.Placing.{no_item}
 use Rattle.knapsack.specs.OwnWords.{has_copies, total_weight, total_profit}
 use Rattle.knapsack.specs.Laws.Sizes.{small_item_at}
 use Rattle.knapsack.specs.Laws.Packings.{has_copies-other_length}
