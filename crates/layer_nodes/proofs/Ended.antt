@@ -1,16 +1,19 @@
 -- Suffixes of nodes in memory, one after another.
-use Rattle.std.proofs.Common.{◌≡◌, ℕ, zero, suc, ◌+◌, ◌<◌, ◌≤◌, ℤ, pos, ◌+ℤ◌, List, [], ◌∷◌, length, map, take, set, get_or, Option, Some, refl, sym, ◌∙◌, ap, ap₂, subst, arith}
+use Rattle.std.proofs.Common.{◌≡◌, ◌≢◌, ℕ, zero, suc, ◌+◌, ◌<◌, ◌≤◌, ℤ, pos, ◌+ℤ◌, ◌<ℤ◌, int_lt, Bool, true, false, cond, List, [], ◌∷◌, length, map, take, set, get_or, slice_get, Option, Some, None, IfSome, option_and_then, refl, sym, ◌∙◌, ap, ap₂, subst, arith}
+use Rattle.std.specs.List.{cons_option}
+use Rattle.std.proofs.lemmas.Int.{ints}
 use Rattle.std.proofs.lemmas.List.{map_more, length-map}
 use Rattle.std.proofs.lemmas.List.Elements.{filter_map-append}
 use Rattle.dp_model.specs.Lists.{Each}
-use Rattle.dp_model.specs.Numbers.{add_some, greatest}
+use Rattle.dp_model.specs.Numbers.{add_some, greatest_from, greatest}
 use Rattle.dp_laws.specs.declared.arc.DdArc.{DdArc}
 use Rattle.layer_nodes.specs.declared.node.Node.{Node}
 use Rattle.layer_nodes.specs.declared.routing.Route.{Route}
 use Rattle.layer_nodes.specs.declared.routing.StoredArc.{StoredArc}
 use Rattle.layer_nodes.specs.Nodes.{NodeView, LayerView}
-use Rattle.layer_nodes.specs.Ending.{suffix_of, lengths, MayAdd, MayFollow, MayLead, MayEnd, ended, ended_layer, at_end, suffixes_in, arcs_in, ended_in, at_end_in}
+use Rattle.layer_nodes.specs.Ending.{suffix_of, lengths, MayAdd, MayFollow, IsThere, MayLead, MayEnd, ended, ended_layer, at_end, suffixes_in, arcs_in, ended_in, at_end_in}
 use Rattle.layer_nodes.specs.Merging.{greater}
+use Rattle.layer_nodes.specs.Packed.{no_length}
 use Rattle.layer_nodes.specs.Routing.{routed, routed_arcs}
 use Rattle.layer_nodes.specs.Stored.{node_view_by, HasArcsIn, HasLayer}
 use Rattle.layer_nodes.proofs.Merged.{greatest-option}
@@ -54,6 +57,49 @@ longer-more suffixes routes arcs i d best best2 less h e =
     e ∙ (ap (λ b. greater b (length_of arc)) h
     ∙ sym (ap (λ l. greatest (lengths suffixes l)) (map_more (routed routes) arcs i d less)
     ∙ (ap greatest (filter_map-append length_of before (arc ∷ [])) ∙ greatest-option (lengths suffixes before) (length_of arc))))
+
+-- ---- the length of a path is not the number that stands for none
+
+-- the number is above it
+abbrev IsAbove : ℤ → Type 0
+IsAbove z = no_length <ℤ z
+
+above-sum : (arc : DdArc) (suffix : Option ℤ) → MayAdd arc → MayFollow suffix → IfSome (add_some (arc.gain +ℤ arc.longer) suffix) IsAbove
+above-sum arc None add follow = tt
+above-sum arc (Some s) add follow = let gain = add.gain.low in let longer = add.longer.low in let low = follow.low in omega (arith, ints)
+
+lead-may-follow : (suffixes : List (Option ℤ)) (target : Option ℕ) → MayLead suffixes target → MayFollow (suffix_of suffixes target)
+lead-may-follow suffixes None h = tt
+lead-may-follow suffixes (Some i) h = by (slice_get suffixes i) h
+  where
+    by : (found : Option (Option ℤ)) → IsThere found → MayFollow (option_and_then (λ s. s) found)
+    by None h = absurd h
+    by (Some suffix) h = h
+
+above-cons : (length : Option ℤ) (zs : List ℤ) → IfSome length IsAbove → Each IsAbove zs → Each IsAbove (cons_option length zs)
+above-cons None zs h rest = rest
+above-cons (Some z) zs h rest = (h, rest)
+
+above-lengths : (suffixes : List (Option ℤ)) (arcs : List DdArc) → Each MayAdd arcs → Each (λ (arc : DdArc). MayLead suffixes arc.target) arcs → Each IsAbove (lengths suffixes arcs)
+above-lengths suffixes [] add lead = tt
+above-lengths suffixes (arc ∷ arcs) add lead =
+    above-cons (add_some (arc.gain +ℤ arc.longer) (suffix_of suffixes arc.target)) (lengths suffixes arcs)
+    (above-sum arc (suffix_of suffixes arc.target) add.0 (lead-may-follow suffixes arc.target lead.0)) (above-lengths suffixes arcs add.1 lead.1)
+
+above-greatest : (z : ℤ) (zs : List ℤ) → IsAbove z → Each IsAbove zs → IsAbove (greatest_from z zs)
+above-greatest z [] h rest = h
+above-greatest z (y ∷ ys) h rest = above-greatest (cond (int_lt z y) y z) ys (by (int_lt z y)) rest.1
+  where
+    by : (t : Bool) → IsAbove (cond t y z)
+    by true = rest.0
+    by false = h
+
+pub greatest-packs : (suffixes : List (Option ℤ)) (arcs : List DdArc) → Each MayAdd arcs → Each (λ (arc : DdArc). MayLead suffixes arc.target) arcs → IfSome (greatest (lengths suffixes arcs)) (λ z. z ≢ no_length)
+greatest-packs suffixes arcs add lead = by (lengths suffixes arcs) (above-lengths suffixes arcs add lead)
+  where
+    by : (zs : List ℤ) → Each IsAbove zs → IfSome (greatest zs) (λ z. z ≢ no_length)
+    by [] h = tt
+    by (z ∷ zs) h = λ e. let above : no_length <ℤ greatest_from z zs = above-greatest z zs h.0 h.1 in absurd (omega (arith, ints))
 
 -- ---- the nodes of a layer
 

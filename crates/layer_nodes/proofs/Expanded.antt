@@ -1,5 +1,5 @@
 -- A layer that was expanded in memory is that of the rules, whatever the paths are.
-use Rattle.std.proofs.Common.{◌≡◌, ℕ, zero, suc, ◌+◌, ◌*◌, ◌<◌, ◌≤◌, nat_lt, ℤ, Bool, true, false, not, cond, ◌&&◌, ◌||◌, List, [], ◌∷◌, ◌++◌, length, map, take, drop, get_or, slice_get, position, Option, Some, None, IsSome, option_and_then, refl, sym, ◌∙◌, ap, ap₂, subst, append_assoc, length-append, arith}
+use Rattle.std.proofs.Common.{◌≡◌, ℕ, zero, suc, ◌+◌, ◌*◌, ◌<◌, ◌≤◌, nat_lt, ℤ, Bool, true, false, not, cond, ◌&&◌, ◌||◌, List, [], ◌∷◌, ◌++◌, length, map, take, drop, slice_get, position, Option, Some, None, IsSome, option_and_then, refl, sym, ◌∙◌, ap, ap₂, subst, append_assoc, length-append, arith}
 use Rattle.std.proofs.Math.Seq.{drop-append_seam}
 use Rattle.std.proofs.lemmas.List.{map-append, length-map, take-append-drop}
 use Rattle.std.proofs.lemmas.Option.{slice_get-map, slice_get-get_or}
@@ -43,6 +43,7 @@ use Rattle.layer_nodes.specs.Expanding.{Trial, trial, trials_at, trials_of, all_
 use Rattle.layer_nodes.specs.Routing.{routed, routed_arcs, to_way, to_ways}
 use Rattle.layer_nodes.proofs.Routed.{led, routed-led}
 use Rattle.layer_nodes.proofs.Spans.{length-spanned}
+use Rattle.layer_nodes.proofs.Stored.{get_or-any}
 use Rattle.layer_nodes.proofs.Tried.{length-arcs}
 
 -- the decisions of a layer above the last one
@@ -174,11 +175,6 @@ rest-stays dp k held old new first (node ∷ nodes) =
 pub places-stay : (dp : Dp) (k : ℕ) (held : ℕ → List ℤ) (first : ℕ) (nodes : List Node) → rows_in (all_spanned dp k held first nodes) ≡ rows_in nodes
 places-stay dp k held first [] = refl
 places-stay dp k held first (node ∷ nodes) = ap (λ l. node.row ∷ l) (places-stay dp k held (first + length (trials_at dp k held node)) nodes)
-
-pub get_or-any : {X : Type 0} (xs : List X) (j : ℕ) (a b : X) → j < length xs → get_or xs j a ≡ get_or xs j b
-get_or-any [] j a b less = absurd (omega arith)
-get_or-any (x ∷ xs) zero a b less = refl
-get_or-any (x ∷ xs) (suc j) a b less = get_or-any xs j a b (omega arith)
 
 -- What a layer in memory owes.
 

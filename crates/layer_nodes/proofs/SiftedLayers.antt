@@ -49,7 +49,8 @@ use Rattle.layer_nodes.proofs.Routed.{led, routed-led}
 use Rattle.layer_nodes.proofs.Spans.{length-spanned}
 use Rattle.layer_nodes.proofs.Shown.{map-map}
 use Rattle.layer_nodes.proofs.Tried.{length-arcs}
-use Rattle.layer_nodes.proofs.Expanded.{members-shown, place-of, row-found, get_or-any, above-from, keys-shown, rows-of, rest-stays, places-stay, arcs-within, IsFoundBy, keys-ranked, keys-bare}
+use Rattle.layer_nodes.proofs.Stored.{get_or-any}
+use Rattle.layer_nodes.proofs.Expanded.{members-shown, place-of, row-found, above-from, keys-shown, rows-of, rest-stays, places-stay, arcs-within, IsFoundBy, keys-ranked, keys-bare}
 
 -- What is left of nodes.
 

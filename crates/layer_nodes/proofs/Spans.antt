@@ -1,5 +1,5 @@
 -- The nodes of a layer with their arcs, one node more.
-use Rattle.std.proofs.Common.{◌≡◌, ℕ, zero, suc, ◌+◌, ◌<◌, ℤ, Bool, List, [], ◌∷◌, ◌++◌, length, take, drop, set, get_or, append_assoc, append-nil, length-append, refl, sym, ap, ap₂, subst, ◌∙◌, arith}
+use Rattle.std.proofs.Common.{◌≡◌, ℕ, zero, suc, ◌+◌, ◌<◌, ◌≤◌, ℤ, Bool, List, [], ◌∷◌, ◌++◌, length, take, drop, set, get_or, append_assoc, append-nil, length-append, refl, sym, ap, ap₂, subst, ◌∙◌, arith}
 use Rattle.std.proofs.lemmas.List.{take_more, drop_more, set_at, length-take-le}
 use Rattle.std.proofs.Math.Seq.{get_or-append_seam}
 use Rattle.dp_model.specs.Decisions.{below}
@@ -8,6 +8,7 @@ use Rattle.dp_model.specs.Lists.{Each}
 use Rattle.layer_candidates.specs.declared.member.Member.{Member}
 use Rattle.layer_candidates.specs.Members.{member_at, IsMemberOf}
 use Rattle.layer_candidates.specs.HeldRows.{held_row, HasExchanged}
+use Rattle.layer_candidates.specs.Steps.{IsReachedWithin}
 use Rattle.row_region.specs.Region.{RegionView, IsLive}
 use Rattle.layer_nodes.specs.declared.node.Node.{Node}
 use Rattle.layer_candidates.specs.declared.way.Way.{Way}
@@ -20,6 +21,11 @@ use Rattle.layer_nodes.specs.Expanding.{member_of, members_from, node_in, trials
 pub length-members : (i : ℕ) (nodes : List Node) → length (members_from i nodes) ≡ length nodes
 length-members i [] = refl
 length-members i (node ∷ nodes) = (let rest = length-members (i + 1) nodes in omega arith)
+
+-- none of them is reached by a step after the n-th
+pub members-within : (n i : ℕ) (nodes : List Node) → i + length nodes ≤ n + 1 → Each (IsReachedWithin n) (members_from i nodes)
+members-within n i [] fit = tt
+members-within n i (node ∷ nodes) fit = ((omega arith), members-within n (i + 1) nodes (omega arith))
 
 member-from : (i : ℕ) (nodes : List Node) (j : ℕ) (m : Member) (d : Node) → j < length nodes → get_or (members_from i nodes) j m ≡ member_of (get_or nodes j d) (i + j)
 member-from i [] j m d less = absurd (omega arith)

@@ -1,5 +1,5 @@
 -- Nodes of a layer in memory, one after another.
-use Rattle.std.proofs.Common.{◌≡◌, ℕ, zero, suc, ◌<◌, ◌≤◌, List, [], ◌∷◌, length, map, take, drop, set, get_or, refl, inl, inr, ap, subst, arith}
+use Rattle.std.proofs.Common.{◌≡◌, ℕ, zero, suc, ◌<◌, ◌≤◌, List, [], ◌∷◌, length, map, take, drop, set, get_or, refl, inl, inr, ap, ◌∙◌, subst, arith}
 use Rattle.dp_model.specs.Lists.{Each, OneOf}
 use Rattle.dp_laws.proofs.Lists.{each-take}
 use Rattle.layer_nodes.specs.Steps.{AreAmong}
@@ -55,3 +55,12 @@ among-map f old (x ∷ new) h = (found f old x h.0, among-map f old new h.1)
 
 pub among-take : {X : Type 0} (n : ℕ) (old new : List X) → AreAmong old new → AreAmong old (take n new)
 among-take n old new h = each-take (λ x. OneOf (λ other. other ≡ x) old) n new h
+
+pub get_or-any : {X : Type 0} (xs : List X) (j : ℕ) (a b : X) → j < length xs → get_or xs j a ≡ get_or xs j b
+get_or-any [] j a b less = absurd (omega arith)
+get_or-any (x ∷ xs) zero a b less = refl
+get_or-any (x ∷ xs) (suc j) a b less = get_or-any xs j a b (omega arith)
+
+-- an element that was read, beside any other default
+pub read-is : {X : Type 0} (xs : List X) (i : ℕ) (x d : X) → i < length xs → x ≡ get_or xs i x → x ≡ get_or xs i d
+read-is xs i x d less is = is ∙ get_or-any xs i x d less

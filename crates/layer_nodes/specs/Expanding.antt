@@ -16,6 +16,7 @@ use Rattle.layer_candidates.specs.Ways.{way_at}
 use Rattle.layer_nodes.specs.declared.node.Node.{Node}
 use Rattle.layer_nodes.specs.declared.routing.Route.{Route}
 use Rattle.layer_nodes.specs.Nodes.{shown_layer, shown_below, without_arcs}
+use Rattle.layer_nodes.specs.Packed.{no_place}
 use Rattle.layer_nodes.specs.Routing.{route_at, IsPlain}
 use Rattle.layer_nodes.specs.Steps.{IsRanked}
 use Rattle.layer_nodes.specs.Stored.{node_view_by, rows_in, HasArcsIn}
@@ -121,6 +122,10 @@ pub record IsNumbered (n : ℕ) (keys : List Key) (routes : List Route) (p : ℕ
   pub is : number_at routes p ≡ Some number
   pub within : number < n
   pub same : (key_in keys number).place ≡ p
+
+-- the place of each way's parent is less than the number that stands for none
+abbrev pub HaveParents : List Way → Type 0
+HaveParents ways = (i : ℕ) → i < length ways → (way_at ways i).parent < no_place
 
 -- the node of a key's way, with its mark
 abbrev pub node_of : List Way → List Bool → Key → Node

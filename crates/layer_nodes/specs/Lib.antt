@@ -1,3 +1,4 @@
+pub mod Packed
 pub mod Nodes
 pub mod Routing
 pub mod Stored

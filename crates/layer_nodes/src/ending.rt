@@ -9,6 +9,7 @@ ghost use Rattle.layer_nodes.specs.Routing.{routed_arcs};
 use crate::layer::Layer;
 use crate::merging::greater;
 use crate::node::Node;
+use crate::packed::PackedLength;
 use crate::routing::{Route, StoredArc, routed};
 use dp_laws::DdArc;
 
@@ -29,7 +30,7 @@ fn suffix_of(nodes: &[Node], target: Option<u32>) -> Option<i64>
     ensures short { MayFollow result }
 {
     let place = target?;
-    nodes[place as usize].suffix
+    nodes[place as usize].suffix.get()
 }
 
 /// The greatest length of a path that begins with one of the arcs, which lead by the routes to these nodes.
@@ -62,15 +63,15 @@ fn end_nodes(nodes: &mut [Node], arcs: &[StoredArc], routes: &[Route], next: &[N
 {
     'nodes: for i in 0..nodes.len() {
         let own = arcs_of(arcs, nodes[i]);
-        nodes[i].suffix = longest(own, routes, next);
+        nodes[i].suffix = PackedLength::of(longest(own, routes, next));
     }
 }
 
 /// The suffix of a node of the last layer, which no arc leaves.
-fn without_arcs() -> Option<i64>
+fn without_arcs() -> PackedLength
     ensures { result ≡ Some (pos 0) }
 {
-    Some(0)
+    PackedLength::of(Some(0))
 }
 
 /// Sets the suffixes of nodes of the last layer.

@@ -9,7 +9,7 @@ ghost use Rattle.layer_candidates.specs.Ways.{way_row, all_reached, IsNear, AllH
 ghost use Rattle.layer_candidates.specs.Members.{members_as, IsMemberOf};
 ghost use Rattle.layer_candidates.specs.WayTables.{table_rows, HasTableRoom, IsWayTable, KeepsTableRoom, TookIn};
 ghost use Rattle.row_region.specs.Region.{IsLive};
-ghost use Rattle.layer_nodes.specs.Expanding.{member_of, members_from, Trial, trials_by, trials_of, spanned, all_spanned, marked, AreTried};
+ghost use Rattle.layer_nodes.specs.Expanding.{member_of, members_from, Trial, trials_by, trials_of, spanned, all_spanned, marked, AreTried, HaveParents};
 ghost use Rattle.layer_nodes.specs.Routing.{to_ways};
 
 use crate::node::Node;
@@ -163,9 +163,9 @@ fn try_node<M: DpModel>(
 }
 
 /// The node as a member of its layer, reached by the step of its place.
-fn member_of(node: Node, place: usize) -> Member
+fn member_of(node: &Node, place: usize) -> Member
     requires { place < 2 ^ 32 }
-    ensures { result ≡ member_of node place }
+    ensures { result ≡ member_of node.now place }
 {
     Member {
         value: node.value,
@@ -222,6 +222,7 @@ pub fn extend_layer<M: DpModel>(
     ensures tried { AreTried (M.meaning (M.numbers model.now)) k (way_row region.new found.new.table.ways.items) (length found.new.table.ways.items) (trials_of (M.meaning (M.numbers model.now)) k (held_row region.old) nodes.old) found.new.marks.items (to_ways arcs.new.items) }
     ensures nodes { nodes.new ≡ all_spanned (M.meaning (M.numbers model.now)) k (held_row region.old) 0 nodes.old }
     ensures few { length found.new.table.ways.items ≤ length nodes.old * (M.meaning (M.numbers model.now)).choices k }
+    ensures parents { HaveParents found.new.table.ways.items }
     ensures room { KeepsTableRoom found.old.table found.new.table }
     ensures marks { length found.new.marks.items ≡ length found.old.marks.items }
     ensures arcs_few { length arcs.new.items ≤ length nodes.old * (M.meaning (M.numbers model.now)).choices k }
@@ -235,7 +236,7 @@ pub fn extend_layer<M: DpModel>(
     let mut spot = take_row(region);
     'nodes: for i in 0..nodes.len() {
         let node = nodes[i];
-        let parent = member_of(node, i);
+        let parent = member_of(&node, i);
         copy_row(region, node.row, from);
         let first = arcs.len();
         let tried = TriedNode {

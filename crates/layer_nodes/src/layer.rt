@@ -208,7 +208,7 @@ impl Layer {
         requires { node < length self.now.nodes }
         ensures { option_map (λ n. n.parent) (slice_get self.now.nodes node) ≡ Some result }
     {
-        self.nodes[node].parent
+        self.nodes[node].parent.get()
     }
 
     /// The decision that leads to a node from its parent.
@@ -224,7 +224,7 @@ impl Layer {
         requires { node < length self.now.nodes }
         ensures { option_map (λ n. n.suffix) (slice_get self.now.nodes node) ≡ Some result }
     {
-        self.nodes[node].suffix
+        self.nodes[node].suffix.get()
     }
 
     /// How many arcs a node has.

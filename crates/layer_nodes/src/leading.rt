@@ -18,9 +18,9 @@ use layer_candidates::row_of;
 use row_region::Region;
 
 /// A node that stays at the place becomes a leader where it is exact and there are fewer than `MOST_LEADERS`.
-pub(crate) fn lead(leaders: &mut Vec<LeaderAt>, place: u32, node: Node)
+pub(crate) fn lead(leaders: &mut Vec<LeaderAt>, place: u32, node: &Node)
     requires room { MOST_LEADERS ≤ vec_capacity leaders.old }
-    ensures leaders { leaders.new.items ≡ led_at leaders.old.items place node }
+    ensures leaders { leaders.new.items ≡ led_at leaders.old.items place node.now }
     ensures capacity { vec_capacity leaders.new ≡ vec_capacity leaders.old }
 {
     if node.exact && leaders.len() < MOST_LEADERS {
@@ -44,10 +44,10 @@ pub(crate) fn redirect_by(place: u32, gap: Option<i64>) -> Option<Redirect>
 }
 
 /// By how much the leader's value is above the node's.
-fn room(leader: LeaderAt, node: Node) -> i64
+fn room(leader: LeaderAt, node: &Node) -> i64
     requires leader { IsNearly leader.value }
-    requires node { IsNearly node.value }
-    ensures { result ≡ (leader.value -ℤ node.value) }
+    requires node { IsNearly node.now.value }
+    ensures { result ≡ (leader.value -ℤ node.now.value) }
 {
     leader.value - node.value
 }
@@ -58,11 +58,11 @@ fn redirect_at<M: DpModel>(
     k: usize,
     region: &Region,
     leader: LeaderAt,
-    node: Node,
+    node: &Node,
 ) -> Option<Redirect>
     requires leader { IsLeaderIn (M.meaning (M.numbers model.now)) k region.now leader }
-    requires node { IsNodeIn (M.meaning (M.numbers model.now)) k region.now node }
-    ensures redirect { result ≡ redirect_within leader.place ((M.meaning (M.numbers model.now)).gap k (held_row region.now leader.row) (held_row region.now node.row)) leader.value node.value }
+    requires node { IsNodeIn (M.meaning (M.numbers model.now)) k region.now node.now }
+    ensures redirect { result ≡ redirect_within leader.place ((M.meaning (M.numbers model.now)).gap k (held_row region.now leader.row) (held_row region.now node.now.row)) leader.value node.now.value }
     ensures short { IsShort result }
 {
     let most = room(leader, node);
@@ -78,11 +78,11 @@ pub(crate) fn at_leader<M: DpModel>(
     k: usize,
     region: &Region,
     leaders: &[LeaderAt],
-    node: Node,
+    node: &Node,
 ) -> Option<Redirect>
     requires leaders { Each (IsLeaderIn (M.meaning (M.numbers model.now)) k region.now) leaders.now }
-    requires node { IsNodeIn (M.meaning (M.numbers model.now)) k region.now node }
-    ensures redirect { result ≡ at_leader (M.meaning (M.numbers model.now)) k (leaders_of (held_row region.now) leaders.now) (bare (held_row region.now) node) }
+    requires node { IsNodeIn (M.meaning (M.numbers model.now)) k region.now node.now }
+    ensures redirect { result ≡ at_leader (M.meaning (M.numbers model.now)) k (leaders_of (held_row region.now) leaders.now) (bare (held_row region.now) node.now) }
     ensures short { IsShort result }
 {
     'leaders: for i in 0..leaders.len() {

@@ -32,6 +32,7 @@ mod leading;
 mod merging;
 mod node;
 mod numbering;
+mod packed;
 mod redirecting;
 mod reducing;
 mod routing;

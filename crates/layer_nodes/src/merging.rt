@@ -29,10 +29,10 @@ use std::snapshot::Snapshot;
 const GREATEST_GAP: i64 = 1 << 50;
 
 /// The node's value with the gap, or none where there is none.
-pub(crate) fn lifted(node: Node, gap: Option<i64>) -> Option<i64>
-    requires near { IsNearly node.value }
+pub(crate) fn lifted(node: &Node, gap: Option<i64>) -> Option<i64>
+    requires near { IsNearly node.now.value }
     requires small { IfSome gap (λ g. IsSmall g) }
-    ensures { result ≡ add_some node.value gap }
+    ensures { result ≡ add_some node.now.value gap }
 {
     let gap = gap?;
     Some(node.value + gap)
@@ -87,12 +87,12 @@ pub(crate) fn gap_to<M: DpModel>(
     k: usize,
     region: &Region,
     into: MergedRow,
-    node: Node,
+    node: &Node,
 ) -> Option<i64>
     requires state { IsStateOf (M.meaning (M.numbers model.now)) k into.state.now }
     requires rank { into.rank ≡ (M.meaning (M.numbers model.now)).rank k into.state.now }
-    requires node { IsNodeIn (M.meaning (M.numbers model.now)) k region.now node }
-    ensures gap { result ≡ (M.meaning (M.numbers model.now)).gap k into.entry.state.now (held_row region.now node.row) }
+    requires node { IsNodeIn (M.meaning (M.numbers model.now)) k region.now node.now }
+    ensures gap { result ≡ (M.meaning (M.numbers model.now)).gap k into.entry.state.now (held_row region.now node.now.row) }
     ensures small { IfSome result (λ g. IsSmall g) }
 {
     let s = row_of(region, node.row);
@@ -121,7 +121,7 @@ fn merge_targets<M: DpModel>(
 {
     let mut best = None;
     'nodes: for i in 0..nodes.len() {
-        let node = nodes[i];
+        let node = &nodes[i];
         let gap = gap_to(model, k, region, into, node);
         best = greater(best, lifted(node, gap));
         redirects.push_reserved(redirect_by(into.place, gap));

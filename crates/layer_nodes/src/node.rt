@@ -1,5 +1,6 @@
 ghost use Rattle.std.specs.Prelude.{◌≡◌, ◌≤◌, length, drop, None};
 
+use crate::packed::{PackedLength, PackedPlace};
 use layer_candidates::HasRow;
 
 /// A node of a layer. Its row stands in a region, and its arcs lie in those of the layer; its kept path is that of its parent, a
@@ -13,9 +14,9 @@ pub struct Node {
     /// The hash of its state in the layer.
     pub hash: u64,
     /// The greatest length of a path from it to the last layer, once it is known.
-    pub suffix: Option<i64>,
+    pub suffix: PackedLength,
     /// The place of its parent in the layer above; a merged node and the first one of all have none.
-    pub parent: Option<u32>,
+    pub parent: PackedPlace,
     /// The place of its row in the region.
     pub row: u32,
     /// The decision that leads to it from its parent.
@@ -27,6 +28,9 @@ pub struct Node {
     /// Whether it stands for one state exactly.
     pub exact: bool,
 }
+
+// A layer has thousands of nodes.
+const _: () = prove!(size_of::<Node>() == 56);
 
 impl HasRow for Node {
     ghost place = { λ node. node.row };
@@ -44,8 +48,8 @@ pub fn lone_node(place: u32, value: i64, rank: i64, hash: u64, exact: bool) -> N
         value,
         rank,
         hash,
-        suffix: None,
-        parent: None,
+        suffix: PackedLength::of(None),
+        parent: PackedPlace::of(None),
         row: place,
         decision: 0,
         first_arc: 0,

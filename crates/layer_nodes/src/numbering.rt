@@ -2,7 +2,8 @@
 
 ghost use Rattle.std.specs.Prelude.{◌≡◌, ◌≢◌, ℕ, ◌<◌, ◌≤◌, ◌^◌, Bool, true, false, List, length, map, replicate, None, vec_capacity, IsPermutation, IsTrue};
 ghost use Rattle.dp_model.specs.Lists.{Each};
-ghost use Rattle.layer_nodes.specs.Expanding.{mark_at, key_in, number_at, IsNumbered, node_of, AreArranged};
+ghost use Rattle.layer_nodes.specs.Expanding.{mark_at, key_in, number_at, IsNumbered, HaveParents, node_of, AreArranged};
+ghost use Rattle.layer_nodes.specs.Packed.{no_place};
 ghost use Rattle.layer_nodes.specs.Routing.{nowhere, IsPlain};
 ghost use Rattle.layer_nodes.specs.Reducing.{AreListed, AreInexact, AreFirst, HasMergedKeys, AreReduced};
 ghost use Rattle.layer_nodes.specs.Sifting.{AreOrdered, AreSifted};
@@ -18,6 +19,7 @@ ghost use Rattle.row_region.specs.Region.{IsLive};
 
 use crate::extending::MarkedWays;
 use crate::node::Node;
+use crate::packed::{PackedLength, PackedPlace};
 use crate::reducing::{are_inexact, merge_keys};
 use crate::routing::{Route, nowhere};
 use dp_model::DpModel;
@@ -78,14 +80,15 @@ pub(crate) fn number_ways(keys: &[Key], count: usize, routes: &mut Vec<Route>)
 
 /// The node of a key's way, with its mark.
 fn node_of(way: Way, key: Key, exact: bool) -> Node
+    requires { way.parent < no_place }
     ensures { (ways : List Way) (marks : List Bool) → way ≡ way_at ways key.place → exact ≡ mark_at marks key.place → result ≡ node_of ways marks key }
 {
     Node {
         value: key.value,
         rank: key.rank,
         hash: way.hash,
-        suffix: None,
-        parent: Some(way.parent),
+        suffix: PackedLength::of(None),
+        parent: PackedPlace::of(Some(way.parent)),
         row: key.row,
         decision: way.decision,
         first_arc: 0,
@@ -97,6 +100,7 @@ fn node_of(way: Way, key: Key, exact: bool) -> Node
 /// Becomes the nodes of the keys, each with the way and the mark of its place.
 pub(crate) fn list_nodes(ways: &[Way], keys: &[Key], marks: &[bool], nodes: &mut Vec<Node>)
     requires ways { Each (λ key. key.place < length ways.now) keys.now }
+    requires parents { HaveParents ways.now }
     requires marks { Each (λ key. key.place < length marks.now) keys.now }
     requires room { length keys.now ≤ vec_capacity nodes.old }
     ensures nodes { nodes.new.items ≡ map (node_of ways.now marks.now) keys.now }
@@ -122,6 +126,7 @@ impl Arrangement {
     )
         requires held { Each (IsLive region.now) (rows_of self.old.found.table.ways.items) }
         requires zeros { (i : ℕ) → i < length self.old.found.table.ways.items → HasZeros live (way_row region.now self.old.found.table.ways.items i) }
+        requires parents { HaveParents self.old.found.table.ways.items }
         requires small { length self.old.found.table.ways.items < 2 ^ 32 }
         requires marks_room { length self.old.found.table.ways.items ≤ length self.old.found.marks.items }
         requires keys_room { length self.old.found.table.ways.items ≤ vec_capacity self.old.keys }
@@ -156,6 +161,7 @@ impl Arrangement {
         requires layer { k ≤ (M.meaning (M.numbers model.now)).vars }
         requires distinct { AreDistinct (M.meaning (M.numbers model.now)) k (way_row region.old self.old.found.table.ways.items) self.old.found.table.ways.items }
         requires held { AreLive region.old (rows_of self.old.found.table.ways.items) }
+        requires parents { HaveParents self.old.found.table.ways.items }
         requires small { length self.old.found.table.ways.items < 2 ^ 32 }
         requires marks_room { length self.old.found.table.ways.items ≤ length self.old.found.marks.items }
         requires keys_room { length self.old.found.table.ways.items ≤ vec_capacity self.old.keys }
@@ -200,6 +206,7 @@ impl Arrangement {
     )
         requires layer { k ≤ (M.meaning (M.numbers model.now)).vars }
         requires listed { AreListed (M.meaning (M.numbers model.now)) k region.now self.old.found.table.ways.items self.old.keys.items }
+        requires parents { HaveParents self.old.found.table.ways.items }
         requires small { length self.old.found.table.ways.items < 2 ^ 32 }
         requires marks_room { length self.old.found.table.ways.items ≤ length self.old.found.marks.items }
         requires routes_room { length self.old.found.table.ways.items ≤ vec_capacity routes.old }
@@ -248,6 +255,7 @@ impl Arrangement {
         requires listed { AreListed (M.meaning (M.numbers model.now)) k region.old self.old.found.table.ways.items self.old.keys.items }
         requires words { region.old.words ≡ (M.meaning (M.numbers model.now)).words }
         requires cells { length into.old ≡ (M.meaning (M.numbers model.now)).words }
+        requires parents { HaveParents self.old.found.table.ways.items }
         requires small { length self.old.found.table.ways.items < 2 ^ 32 }
         requires marks_room { length self.old.found.table.ways.items ≤ length self.old.found.marks.items }
         requires routes_room { length self.old.found.table.ways.items ≤ vec_capacity routes.old }
@@ -290,6 +298,7 @@ impl Arrangement {
         requires cells { length into.old ≡ (M.meaning (M.numbers model.now)).words }
         requires distinct { AreDistinct (M.meaning (M.numbers model.now)) k (way_row region.old self.old.found.table.ways.items) self.old.found.table.ways.items }
         requires held { AreLive region.old (rows_of self.old.found.table.ways.items) }
+        requires parents { HaveParents self.old.found.table.ways.items }
         requires small { length self.old.found.table.ways.items < 2 ^ 32 }
         requires marks_room { length self.old.found.table.ways.items ≤ length self.old.found.marks.items }
         requires keys_room { length self.old.found.table.ways.items ≤ vec_capacity self.old.keys }

@@ -7,6 +7,7 @@ ghost use Rattle.dp_model.specs.Numbers.{greatest};
 ghost use Rattle.dp_laws.specs.Pairs.{EachTwo};
 ghost use Rattle.layer_candidates.specs.HeldRows.{AreLive, held_row};
 ghost use Rattle.layer_candidates.specs.KeyOrder.{key_rows};
+ghost use Rattle.layer_nodes.specs.Expanding.{HaveParents};
 ghost use Rattle.layer_nodes.specs.Merging.{lifted};
 ghost use Rattle.layer_nodes.specs.Reducing.{key_node, bare_keys, IsKeyNode, AreInexact, merged_route, LeadToMerged, HasMergedKeys};
 ghost use Rattle.layer_nodes.specs.Routing.{route_at};
@@ -76,8 +77,8 @@ fn lead_to_merged<M: DpModel>(
     'keys: for i in 0..keys.len() {
         let key = keys[i];
         let node = key_node(key);
-        let gap = gap_to(model, k, region, into, node);
-        best = greater(best, lifted(node, gap));
+        let gap = gap_to(model, k, region, into, &node);
+        best = greater(best, lifted(&node, gap));
         routes[key.place as usize] = merged_route(into.place, gap);
     }
     best
@@ -112,6 +113,7 @@ pub(crate) fn merge_keys<M: DpModel>(
     requires words { region.old.words ≡ (M.meaning (M.numbers model.now)).words }
     requires cells { length into.old ≡ (M.meaning (M.numbers model.now)).words }
     requires ways { Each (λ key. key.place < length ways.now) keys.now }
+    requires parents { HaveParents ways.now }
     requires marks { Each (λ key. key.place < length marks.now) keys.now }
     requires apart { EachTwo (λ a b. a.place ≢ b.place) keys.now }
     requires small { length keys.now < 2 ^ 32 }

@@ -32,9 +32,15 @@ pub enum Strikes {
 }
 
 /// Whether the node is struck.
-fn is_struck<M: DpModel>(model: &M, k: usize, strikes: Strikes, region: &Region, node: Node) -> bool
-    requires node { IsNodeIn (M.meaning (M.numbers model.now)) k region.now node }
-    ensures { result ≡ is_struck (asking strikes (M.meaning (M.numbers model.now))) k (threshold_of strikes) (bare (held_row region.now) node) }
+fn is_struck<M: DpModel>(
+    model: &M,
+    k: usize,
+    strikes: Strikes,
+    region: &Region,
+    node: &Node,
+) -> bool
+    requires node { IsNodeIn (M.meaning (M.numbers model.now)) k region.now node.now }
+    ensures { result ≡ is_struck (asking strikes (M.meaning (M.numbers model.now))) k (threshold_of strikes) (bare (held_row region.now) node.now) }
 {
     let Strikes::AtMost(threshold) = strikes else {
         return false;
@@ -50,11 +56,11 @@ fn taken_out<M: DpModel>(
     strikes: Strikes,
     region: &Region,
     leaders: &[LeaderAt],
-    node: Node,
+    node: &Node,
 ) -> Option<Option<Redirect>>
     requires leaders { Each (IsLeaderIn (M.meaning (M.numbers model.now)) k region.now) leaders.now }
-    requires node { IsNodeIn (M.meaning (M.numbers model.now)) k region.now node }
-    ensures out { result ≡ taken_out (M.meaning (M.numbers model.now)) k strikes (leaders_of (held_row region.now) leaders.now) (bare (held_row region.now) node) }
+    requires node { IsNodeIn (M.meaning (M.numbers model.now)) k region.now node.now }
+    ensures out { result ≡ taken_out (M.meaning (M.numbers model.now)) k strikes (leaders_of (held_row region.now) leaders.now) (bare (held_row region.now) node.now) }
     ensures short { IfSome result (λ redirect. IsShort redirect) }
 {
     if is_struck(model, k, strikes, region, node) {
@@ -65,13 +71,13 @@ fn taken_out<M: DpModel>(
 }
 
 /// The node that stands at `from` is put at the place.
-fn put_at(nodes: &mut [Node], node: Node, from: usize, place: usize)
+fn put_at(nodes: &mut [Node], node: &Node, from: usize, place: usize)
     requires within { place < length nodes.old }
-    requires from { slice_get nodes.old from ≡ Some node }
-    ensures { nodes.new ≡ set nodes.old place node }
+    requires from { slice_get nodes.old from ≡ Some node.now }
+    ensures { nodes.new ≡ set nodes.old place node.now }
 {
     if place != from {
-        nodes[place] = node;
+        nodes[place] = *node;
     }
 }
 
@@ -80,17 +86,17 @@ fn keep_at(
     nodes: &mut [Node],
     leaders: &mut Vec<LeaderAt>,
     redirects: &mut Vec<Option<Redirect>>,
-    node: Node,
+    node: &Node,
     from: usize,
     place: usize,
 )
     requires within { place < length nodes.old }
-    requires from { slice_get nodes.old from ≡ Some node }
+    requires from { slice_get nodes.old from ≡ Some node.now }
     requires small { length nodes.old < 2 ^ 32 }
     requires leaders_room { MOST_LEADERS ≤ vec_capacity leaders.old }
     requires redirects_room { length redirects.old.items < vec_capacity redirects.old }
-    ensures nodes { nodes.new ≡ set nodes.old place node }
-    ensures leaders { leaders.new.items ≡ led_at leaders.old.items place node }
+    ensures nodes { nodes.new ≡ set nodes.old place node.now }
+    ensures leaders { leaders.new.items ≡ led_at leaders.old.items place node.now }
     ensures redirects { redirects.new.items ≡ redirects.old.items ++ Some (record { place = place; longer = pos 0 }) ∷ [] }
     ensures leaders_capacity { vec_capacity leaders.new ≡ vec_capacity leaders.old }
     ensures redirects_capacity { vec_capacity redirects.new ≡ vec_capacity redirects.old }
@@ -129,14 +135,14 @@ fn prune<M: DpModel>(
     let mut stay = 0;
     'nodes: for i in 0..nodes.len() {
         let node = nodes[i];
-        let out = taken_out(model, k, strikes, region, leaders.as_slice(), node);
+        let out = taken_out(model, k, strikes, region, leaders.as_slice(), &node);
         match out {
             Some(redirect) => {
                 region.give(RowId { place: node.row });
                 redirects.push_reserved(redirect);
             }
             None => {
-                keep_at(nodes, leaders, redirects, node, i, stay);
+                keep_at(nodes, leaders, redirects, &node, i, stay);
                 stay += 1;
             }
         }

@@ -1,14 +1,10 @@
-use Rattle.std.proofs.Common.{rules, pos, false, None, ◌∙◌}
-use Rattle.layer_nodes.specs.declared.node.Node.{Node}
+use Rattle.std.proofs.Common.{rules, ◌∙◌}
 use Rattle.layer_nodes.specs.Ending.{at_end_in}
 use Rattle.layer_nodes.proofs.Ended.{last-more, mapped-all}
 use Rattle.layer_nodes.proofs.ending.end_last.Goals as goal
 
-abbrev none : Node
-none = record { value = pos 0; rank = pos 0; hash = 0; suffix = None; parent = None; row = 0; decision = 0; first_arc = 0; arcs = 0; exact = false }
-
 pub nodes-preserved : goal.nodes-preserved
-nodes-preserved c = last-more c.args.nodes.now c.nodes.nodes c.nodes.i none c.without_arcs.result c.nodes-test.true c.nodes.invariant c.without_arcs.ensures
+nodes-preserved c = last-more c.args.nodes.now c.nodes.nodes c.nodes.i c.index-nodes-i.result c.without_arcs.result c.nodes-test.true c.nodes.invariant c.without_arcs.ensures
 
 pub returns : goal.returns
 returns c = c.nodes.invariant ∙ mapped-all at_end_in c.nodes.i c.args.nodes.now (search rules)

@@ -1,4 +1,4 @@
-use Rattle.std.proofs.Common.{rules, ◌≡◌, ◌+◌, ◌*◌, ◌≤◌, [], ◌∷◌, ◌++◌, length, take, mul-le-mul_right, IsTrue, refl, sym, ap, subst, ◌∙◌, arith, length-append}
+use Rattle.std.proofs.Common.{rules, ◌≡◌, ◌+◌, ◌-◌, ◌*◌, ◌^◌, ◌≤◌, [], ◌∷◌, ◌++◌, length, take, mul-le-mul_right, IsTrue, refl, sym, ap, subst, ◌∙◌, arith, length-append}
 use Rattle.std.proofs.lemmas.List.{length-map, take_all}
 use Rattle.dp_model.specs.Decisions.{below}
 use Rattle.layer_candidates.specs.declared.member.Member.{Member}
@@ -10,9 +10,13 @@ use Rattle.layer_candidates.proofs.Extended.{members-start, members-all}
 use Rattle.layer_candidates.proofs.WayTables.{room-kept, keeps-then}
 use Rattle.layer_candidates.proofs.HeldRows.{exchange-put, exchange-give, exchange-then, given-same, ways-same}
 use Rattle.layer_candidates.proofs.Joined.{apart-same, good-same, reached-same}
-use Rattle.layer_nodes.specs.Expanding.{members_from, node_in, trials_at, trials_by, trials_of, AreTried}
+use Rattle.layer_candidates.proofs.Layered.{parents-within}
+use Rattle.layer_nodes.specs.declared.node.Node.{Node}
+use Rattle.layer_nodes.specs.Expanding.{member_of, members_from, node_in, trials_at, trials_by, trials_of, spanned, AreTried}
 use Rattle.layer_nodes.specs.Routing.{to_way, to_ways}
-use Rattle.layer_nodes.proofs.Spans.{length-members, next-member, row-stays, extended-next, tried-next, spanned-next}
+use Rattle.layer_nodes.proofs.Spans.{length-members, members-within, next-member, row-stays, extended-next, tried-next, spanned-next}
+use Rattle.row_region.specs.Region.{IsLive}
+use Rattle.layer_nodes.proofs.Stored.{get_or-any, read-is}
 use Rattle.layer_nodes.proofs.Tried.{length-arcs, tried-stay}
 use Rattle.layer_nodes.proofs.extending.extend_layer.Goals as goal
 
@@ -53,7 +57,8 @@ copy_row-requires-clause-live g c =
     let a = c.args in let l = c.nodes in
     let m = next-member dp a.k a.region.now a.nodes.now l.nodes l.i c.nodes-test.true l.invariant.spans c.requires.members in
     let stays = row-stays dp a.k a.region.now a.nodes.now l.nodes l.i c.nodes-test.true l.invariant.spans c.requires.members l.region (l.spot.place ∷ rows_of l.found.table.ways.items) l.invariant.exchanged in
-    stays.0
+    let read : c.index-nodes-i.result ≡ node_in l.nodes l.i = read-is l.nodes l.i c.index-nodes-i.result (node_in [] 0) (let more = c.nodes-test.true in let same = l.auto.nodes in omega arith) c.index-nodes-i.is in
+    subst (λ (n : Node). IsLive l.region n.row) (sym read) stays.0
 
 pub copy_row-requires-clause-cells : goal.copy_row-requires-clause-cells
 copy_row-requires-clause-cells g c = c.nodes.auto.from ∙ (c.requires.cells ∙ (sym c.requires.words ∙ sym c.nodes.invariant.exchanged.words))
@@ -64,7 +69,8 @@ try_node-requires-clause-state g c κs within =
     let a = c.args in let l = c.nodes in
     let m = next-member dp a.k a.region.now a.nodes.now l.nodes l.i c.nodes-test.true l.invariant.spans c.requires.members in
     let stays = row-stays dp a.k a.region.now a.nodes.now l.nodes l.i c.nodes-test.true l.invariant.spans c.requires.members l.region (l.spot.place ∷ rows_of l.found.table.ways.items) l.invariant.exchanged in
-    let copied : c.copy_row.new.cells ≡ held_row a.region.now (node_in l.nodes l.i).row = c.copy_row.ensures ∙ stays.1 in
+    let read : c.index-nodes-i.result ≡ node_in l.nodes l.i = read-is l.nodes l.i c.index-nodes-i.result (node_in [] 0) (let more = c.nodes-test.true in let same = l.auto.nodes in omega arith) c.index-nodes-i.is in
+    let copied : c.copy_row.new.cells ≡ held_row a.region.now (node_in l.nodes l.i).row = c.copy_row.ensures ∙ (ap (λ (n : Node). held_row l.region n.row) read ∙ stays.1) in
     subst (λ r. IsTrue (dp.is_state c.args.k r)) (sym copied) m.held.state.test
 
 pub try_node-requires-clause-value : goal.try_node-requires-clause-value
@@ -72,7 +78,8 @@ try_node-requires-clause-value g c κs within =
     let dp = g.M.DpModel.meaning (g.M.DpModel.numbers c.args.model.now) in
     let a = c.args in let l = c.nodes in
     let m = next-member dp a.k a.region.now a.nodes.now l.nodes l.i c.nodes-test.true l.invariant.spans c.requires.members in
-    subst IsNear (sym (ap (λ (m : Member). m.value) c.member_of-parent.ensures)) m.value
+    let read : c.index-nodes-i.result ≡ node_in l.nodes l.i = read-is l.nodes l.i c.index-nodes-i.result (node_in [] 0) (let more = c.nodes-test.true in let same = l.auto.nodes in omega arith) c.index-nodes-i.is in
+    subst IsNear (sym (ap (λ (m : Member). m.value) (c.member_of-parent.ensures ∙ ap (λ n. member_of n l.i) read))) m.value
 
 pub try_node-requires-clause-rank : goal.try_node-requires-clause-rank
 try_node-requires-clause-rank g c κs within =
@@ -80,8 +87,9 @@ try_node-requires-clause-rank g c κs within =
     let a = c.args in let l = c.nodes in
     let m = next-member dp a.k a.region.now a.nodes.now l.nodes l.i c.nodes-test.true l.invariant.spans c.requires.members in
     let stays = row-stays dp a.k a.region.now a.nodes.now l.nodes l.i c.nodes-test.true l.invariant.spans c.requires.members l.region (l.spot.place ∷ rows_of l.found.table.ways.items) l.invariant.exchanged in
-    let copied : c.copy_row.new.cells ≡ held_row a.region.now (node_in l.nodes l.i).row = c.copy_row.ensures ∙ stays.1 in
-    ap (λ (m : Member). m.rank) c.member_of-parent.ensures ∙ (m.held.rank ∙ ap (dp.rank c.args.k) (sym copied))
+    let read : c.index-nodes-i.result ≡ node_in l.nodes l.i = read-is l.nodes l.i c.index-nodes-i.result (node_in [] 0) (let more = c.nodes-test.true in let same = l.auto.nodes in omega arith) c.index-nodes-i.is in
+    let copied : c.copy_row.new.cells ≡ held_row a.region.now (node_in l.nodes l.i).row = c.copy_row.ensures ∙ (ap (λ (n : Node). held_row l.region n.row) read ∙ stays.1) in
+    ap (λ (m : Member). m.rank) (c.member_of-parent.ensures ∙ ap (λ n. member_of n l.i) read) ∙ (m.held.rank ∙ ap (dp.rank c.args.k) (sym copied))
 
 pub try_node-requires-clause-hash : goal.try_node-requires-clause-hash
 try_node-requires-clause-hash g c κs within =
@@ -89,8 +97,9 @@ try_node-requires-clause-hash g c κs within =
     let a = c.args in let l = c.nodes in
     let m = next-member dp a.k a.region.now a.nodes.now l.nodes l.i c.nodes-test.true l.invariant.spans c.requires.members in
     let stays = row-stays dp a.k a.region.now a.nodes.now l.nodes l.i c.nodes-test.true l.invariant.spans c.requires.members l.region (l.spot.place ∷ rows_of l.found.table.ways.items) l.invariant.exchanged in
-    let copied : c.copy_row.new.cells ≡ held_row a.region.now (node_in l.nodes l.i).row = c.copy_row.ensures ∙ stays.1 in
-    ap (λ (m : Member). m.hash) c.member_of-parent.ensures ∙ (m.held.hash ∙ ap (dp.hash c.args.k) (sym copied))
+    let read : c.index-nodes-i.result ≡ node_in l.nodes l.i = read-is l.nodes l.i c.index-nodes-i.result (node_in [] 0) (let more = c.nodes-test.true in let same = l.auto.nodes in omega arith) c.index-nodes-i.is in
+    let copied : c.copy_row.new.cells ≡ held_row a.region.now (node_in l.nodes l.i).row = c.copy_row.ensures ∙ (ap (λ (n : Node). held_row l.region n.row) read ∙ stays.1) in
+    ap (λ (m : Member). m.hash) (c.member_of-parent.ensures ∙ ap (λ n. member_of n l.i) read) ∙ (m.held.hash ∙ ap (dp.hash c.args.k) (sym copied))
 
 pub try_node-requires-clause-words : goal.try_node-requires-clause-words
 try_node-requires-clause-words g c κs within = c.nodes.invariant.exchanged.words ∙ c.requires.words
@@ -158,7 +167,8 @@ span-requires-clause-order g c =
     let row2 = way_row e.new.region e.new.found.table.ways.items in
     let ts = trials_of dp a.k (held_row a.region.now) (take l.i a.nodes.now) in
     let us = trials_by dp a.k c.copy_row.new.cells node.exact (below (dp.choices a.k)) in
-    let tried = e.ensures.tried ts l.invariant.tried in
+    let read : c.index-nodes-i.result ≡ node_in l.nodes l.i = read-is l.nodes l.i c.index-nodes-i.result (node_in [] 0) (let more = c.nodes-test.true in let same = l.auto.nodes in omega arith) c.index-nodes-i.is in
+    let tried = subst (λ (n : Node). AreTried dp a.k row2 (length e.new.found.table.ways.items) (ts ++ trials_by dp a.k c.copy_row.new.cells n.exact (below (dp.choices a.k))) e.new.found.marks.items (to_ways e.new.arcs.items)) read (e.ensures.tried ts l.invariant.tried) in
     let before = length-arcs dp a.k row (length l.found.table.ways.items) ts (to_ways l.arcs.items) l.invariant.tried.arcs_are in
     let after = length-arcs dp a.k row2 (length e.new.found.table.ways.items) (ts ++ us) (to_ways e.new.arcs.items) tried.arcs_are in
     let sum = length-append ts us in
@@ -185,13 +195,14 @@ nodes-preserved g c =
     let a = c.args in let l = c.nodes in let e = c.try_node in
     let m = next-member dp a.k a.region.now a.nodes.now l.nodes l.i c.nodes-test.true l.invariant.spans c.requires.members in
     let stays = row-stays dp a.k a.region.now a.nodes.now l.nodes l.i c.nodes-test.true l.invariant.spans c.requires.members l.region (l.spot.place ∷ rows_of l.found.table.ways.items) l.invariant.exchanged in
-    let copied : c.copy_row.new.cells ≡ held_row a.region.now (node_in l.nodes l.i).row = c.copy_row.ensures ∙ stays.1 in
+    let read : c.index-nodes-i.result ≡ node_in l.nodes l.i = read-is l.nodes l.i c.index-nodes-i.result (node_in [] 0) (let more = c.nodes-test.true in let same = l.auto.nodes in omega arith) c.index-nodes-i.is in
+    let copied : c.copy_row.new.cells ≡ held_row a.region.now (node_in l.nodes l.i).row = c.copy_row.ensures ∙ (ap (λ (n : Node). held_row l.region n.row) read ∙ stays.1) in
     let node = node_in l.nodes l.i in
     let row = way_row l.region l.found.table.ways.items in
     let row2 = way_row e.new.region e.new.found.table.ways.items in
     let ts = trials_of dp a.k (held_row a.region.now) (take l.i a.nodes.now) in
     let us = trials_by dp a.k c.copy_row.new.cells node.exact (below (dp.choices a.k)) in
-    let tried = e.ensures.tried ts l.invariant.tried in
+    let tried = subst (λ (n : Node). AreTried dp a.k row2 (length e.new.found.table.ways.items) (ts ++ trials_by dp a.k c.copy_row.new.cells n.exact (below (dp.choices a.k))) e.new.found.marks.items (to_ways e.new.arcs.items)) read (e.ensures.tried ts l.invariant.tried) in
     let before = length-arcs dp a.k row (length l.found.table.ways.items) ts (to_ways l.arcs.items) l.invariant.tried.arcs_are in
     let after = length-arcs dp a.k row2 (length e.new.found.table.ways.items) (ts ++ us) (to_ways e.new.arcs.items) tried.arcs_are in
     let sum = length-append ts us in
@@ -200,10 +211,12 @@ nodes-preserved g c =
     let first : c.len-first.result ≡ length l.arcs.items = search rules in
     let end : c.len.result ≡ length e.new.arcs.items = search rules in
     let mine : length us ≡ length (trials_at dp a.k (held_row a.region.now) node) = ap (λ r. length (trials_by dp a.k r node.exact (below (dp.choices a.k)))) copied in
-    let is = c.span.ensures (length us) (omega arith) in
+    let less = c.nodes-test.true in
+    let same = l.auto.nodes in
+    let is = c.span.ensures (length us) (omega arith) ∙ ap (spanned c.len-first.result (length us)) (get_or-any l.nodes l.i c.index-nodes-i-in-nodes.result (node_in [] 0) (omega arith)) in
     let more = e.ensures.arcs_few in
     let few = l.invariant.arcs_few in
-    let made = subst (λ (p : Member). HasExtended dp a.k p.step c.copy_row.new.cells p.value (below (dp.choices a.k)) c.first_live-live.result row l.found.table.ways.items row2 e.new.found.table.ways.items e.new.found.table.hashes.items e.new.found.table.heads.items e.new.found.table.next.items) c.member_of-parent.ensures
+    let made = subst (λ (p : Member). HasExtended dp a.k p.step c.copy_row.new.cells p.value (below (dp.choices a.k)) c.first_live-live.result row l.found.table.ways.items row2 e.new.found.table.ways.items e.new.found.table.hashes.items e.new.found.table.heads.items e.new.found.table.next.items) (c.member_of-parent.ensures ∙ ap (λ n. member_of n l.i) read)
     (subst (λ v. HasExtended dp a.k c.member_of-parent.result.step c.copy_row.new.cells c.member_of-parent.result.value (below (dp.choices a.k)) v row l.found.table.ways.items row2 e.new.found.table.ways.items e.new.found.table.hashes.items e.new.found.table.heads.items e.new.found.table.next.items) l.invariant.live e.ensures.extended) in
     record {
       extended = extended-next dp a.k a.region.now a.nodes.now l.nodes l.i c.nodes-test.true l.invariant.spans c.first_live-live.result c.copy_row.new.cells row row2 l.found.table.ways.items e.new.found.table.ways.items l.found.table.hashes.items l.found.table.heads.items l.found.table.next.items e.new.found.table.hashes.items e.new.found.table.heads.items e.new.found.table.next.items
@@ -251,6 +264,19 @@ returns-clause-list g c paths =
     let size = length-members 0 a.nodes.now in
     reached-same row row2 l.found.table.ways.items stay paths
     ∙ members-all dp a.k l.i a.region.now c.first_live-live.result (members_from 0 a.nodes.now) row l.found.table.ways.items l.found.table.hashes.items l.found.table.heads.items l.found.table.next.items l.invariant.extended (omega arith) paths
+
+pub returns-clause-parents : goal.returns-clause-parents
+returns-clause-parents g c i less =
+    let dp = g.M.DpModel.meaning (g.M.DpModel.numbers c.args.model.now) in
+    let a = c.args in let l = c.nodes in
+    let test = c.nodes-test.false in
+    let end = l.auto.i-end in
+    let size = length-members 0 a.nodes.now in
+    let few = c.requires.few_nodes in
+    let steps = members-within (2 ^ 32 - 2) 0 a.nodes.now (omega arith) in
+    let within = parents-within dp a.k (2 ^ 32 - 2) a.region.now (members_from 0 a.nodes.now) (way_row l.region l.found.table.ways.items) l.found.table.ways.items steps
+    (members-all dp a.k l.i a.region.now c.first_live-live.result (members_from 0 a.nodes.now) (way_row l.region l.found.table.ways.items) l.found.table.ways.items l.found.table.hashes.items l.found.table.heads.items l.found.table.next.items l.invariant.extended (omega arith)) i less in
+    omega arith
 
 pub returns-clause-tried : goal.returns-clause-tried
 returns-clause-tried g c =

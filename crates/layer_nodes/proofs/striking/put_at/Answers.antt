@@ -7,4 +7,4 @@ returns-else-place-from c =
     let a = c.args in
     let test = c.if-place-from.false in
     let same : a.place ≡ a.from = omega arith in
-    sym (set-own a.nodes.now a.place a.node (ap (slice_get a.nodes.now) same ∙ c.requires.from))
+    sym (set-own a.nodes.now a.place a.node.now (ap (slice_get a.nodes.now) same ∙ c.requires.from))

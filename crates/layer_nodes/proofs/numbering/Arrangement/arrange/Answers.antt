@@ -3,7 +3,7 @@ use Rattle.dp_model.specs.Lists.{Each}
 use Rattle.layer_candidates.specs.declared.key.Key.{Key}
 use Rattle.layer_candidates.specs.HeldRows.{held_row}
 use Rattle.layer_candidates.proofs.Sorted.{length-keys, keys-within}
-use Rattle.layer_nodes.specs.Expanding.{key_in, IsNumbered, node_of}
+use Rattle.layer_nodes.specs.Expanding.{key_in, IsNumbered, HaveParents, node_of}
 use Rattle.layer_nodes.proofs.Expanded.{arranged-by}
 use Rattle.layer_nodes.proofs.numbering.Arrangement.arrange.Goals as goal
 
@@ -24,6 +24,9 @@ pub list_nodes-requires-clause-ways : goal.list_nodes-requires-clause-ways
 list_nodes-requires-clause-ways c =
     subst (Each (λ (key : Key). key.place < length c.as_slice-ways.result.now)) (sym c.as_slice-keys.ensures.value)
     (keys-within c.as_slice-ways.result.now c.put_in_order.new.keys.items (length c.as_slice-ways.result.now) (omega arith) c.put_in_order.ensures.all)
+
+pub list_nodes-requires-clause-parents : goal.list_nodes-requires-clause-parents
+list_nodes-requires-clause-parents c = subst HaveParents (sym c.as_slice-ways.ensures.value) c.requires.parents
 
 pub list_nodes-requires-clause-marks : goal.list_nodes-requires-clause-marks
 list_nodes-requires-clause-marks c =

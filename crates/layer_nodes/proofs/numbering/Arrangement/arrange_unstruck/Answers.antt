@@ -1,8 +1,12 @@
-use Rattle.std.proofs.Common.{ap}
+use Rattle.std.proofs.Common.{sym, ap, subst}
 use Rattle.layer_candidates.specs.HeldRows.{held_row}
 use Rattle.layer_nodes.specs.declared.extending.MarkedWays.{MarkedWays}
+use Rattle.layer_nodes.specs.Expanding.{HaveParents}
 use Rattle.layer_nodes.proofs.SiftedLayers.{ordered-by, ordered-sifted, ordered-left}
 use Rattle.layer_nodes.proofs.numbering.Arrangement.arrange_unstruck.Goals as goal
+
+pub order-requires-clause-parents : goal.order-requires-clause-parents
+order-requires-clause-parents g c κs within = subst HaveParents (sym (ap (λ (f : MarkedWays). f.table.ways.items) c.list.ensures.found)) c.requires.parents
 
 pub returns-clause-arranged : goal.returns-clause-arranged
 returns-clause-arranged g c =

@@ -1,4 +1,4 @@
-use Rattle.std.proofs.Common.{◌≡◌, ◌-◌, false, length, IsPermutation, ap, subst, ◌∙◌, arith}
+use Rattle.std.proofs.Common.{◌≡◌, ◌-◌, false, length, IsPermutation, sym, ap, subst, ◌∙◌, arith}
 use Rattle.std.proofs.lemmas.List.Sorted.{IsPermutation-map, length_permutation}
 use Rattle.dp_model.specs.Lists.{Each}
 use Rattle.dp_laws.proofs.Restricted.Permutations.{each-permutation}
@@ -8,11 +8,17 @@ use Rattle.layer_candidates.specs.KeyOrder.{key_rows}
 use Rattle.layer_candidates.specs.Ways.{rows_of}
 use Rattle.layer_candidates.proofs.HeldRows.{left-moved}
 use Rattle.layer_nodes.specs.declared.extending.MarkedWays.{MarkedWays}
-use Rattle.layer_nodes.specs.Expanding.{mark_at}
+use Rattle.layer_nodes.specs.Expanding.{mark_at, HaveParents}
 use Rattle.layer_nodes.specs.Reducing.{HasMergedKeys}
 use Rattle.layer_nodes.proofs.Listed.{listed-within, listed-moved}
 use Rattle.layer_nodes.proofs.SiftedLayers.{ordered-by, ordered-sifted, ordered-left}
 use Rattle.layer_nodes.proofs.numbering.Arrangement.arrange_within.Goals as goal
+
+pub order-requires-clause-parents : goal.order-requires-clause-parents
+order-requires-clause-parents g c κs within = subst HaveParents (sym (ap (λ (f : MarkedWays). f.table.ways.items) c.list.ensures.found)) c.requires.parents
+
+pub merge-requires-clause-parents : goal.merge-requires-clause-parents
+merge-requires-clause-parents g c κs within = subst HaveParents (sym (ap (λ (f : MarkedWays). f.table.ways.items) c.list.ensures.found)) c.requires.parents
 
 pub returns-then-not-may_merge-clause-arranged : goal.returns-then-not-may_merge-clause-arranged
 returns-then-not-may_merge-clause-arranged g c = λ _.

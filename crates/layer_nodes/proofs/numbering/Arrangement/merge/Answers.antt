@@ -6,6 +6,7 @@ use Rattle.dp_laws.specs.Pairs.{EachTwo}
 use Rattle.layer_candidates.specs.declared.key.Key.{Key}
 use Rattle.layer_candidates.specs.HeldRows.{AreLive}
 use Rattle.layer_candidates.specs.KeyOrder.{key_rows}
+use Rattle.layer_nodes.specs.Expanding.{HaveParents}
 use Rattle.layer_nodes.specs.Reducing.{IsKeyNode}
 use Rattle.layer_nodes.proofs.Listed.{listed-live, listed-zeros, listed-within, listed-nodes, listed-moved}
 use Rattle.layer_nodes.proofs.numbering.Arrangement.merge.Given as given
@@ -61,6 +62,9 @@ merge_keys-requires-clause-ways g c κs within =
     let size = ap length c.as_slice-ways.ensures.value in
     subst (Each (λ (key : Key). key.place < length c.as_slice-ways.result.now)) (sym c.as_slice-keys.ensures.value)
     (listed-within dp a.k a.region.now ways keys h (length c.as_slice-ways.result.now) (omega arith))
+
+pub merge_keys-requires-clause-parents : goal.merge_keys-requires-clause-parents
+merge_keys-requires-clause-parents g c κs within = subst HaveParents (sym c.as_slice-ways.ensures.value) c.requires.parents
 
 pub merge_keys-requires-clause-marks : goal.merge_keys-requires-clause-marks
 merge_keys-requires-clause-marks g c κs within =

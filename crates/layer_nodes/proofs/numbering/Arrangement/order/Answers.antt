@@ -2,7 +2,7 @@ use Rattle.std.proofs.Common.{◌≡◌, ◌≢◌, ℕ, ◌<◌, None, length, 
 use Rattle.dp_model.specs.Lists.{Each}
 use Rattle.layer_candidates.specs.declared.key.Key.{Key}
 use Rattle.layer_candidates.specs.HeldRows.{held_row}
-use Rattle.layer_nodes.specs.Expanding.{key_in, number_at, IsNumbered, node_of}
+use Rattle.layer_nodes.specs.Expanding.{key_in, number_at, IsNumbered, HaveParents, node_of}
 use Rattle.layer_nodes.proofs.Listed.{listed-live, listed-zeros, listed-within, listed-moved}
 use Rattle.layer_nodes.proofs.SiftedLayers.{ordered-by}
 use Rattle.layer_nodes.proofs.numbering.Arrangement.order.Goals as goal
@@ -49,6 +49,9 @@ list_nodes-requires-clause-ways g c =
     let size = ap length c.as_slice-ways.ensures.value in
     subst (Each (λ (key : Key). key.place < length c.as_slice-ways.result.now)) (sym c.as_slice-keys.ensures.value)
     (listed-within dp a.k a.region.now ways keys h (length c.as_slice-ways.result.now) (omega arith))
+
+pub list_nodes-requires-clause-parents : goal.list_nodes-requires-clause-parents
+list_nodes-requires-clause-parents g c = subst HaveParents (sym c.as_slice-ways.ensures.value) c.requires.parents
 
 pub list_nodes-requires-clause-marks : goal.list_nodes-requires-clause-marks
 list_nodes-requires-clause-marks g c =
