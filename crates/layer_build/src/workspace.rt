@@ -204,8 +204,8 @@ impl Workspace {
         self.expand_by(model, Making::By(Strikes::AtMost(threshold)));
     }
 
-    /// Takes out the nodes of the last layer that are struck by their rough bound, or that one of the first 16 exact ones that
-    /// stay dominates; the arcs into it follow.
+    /// Takes out the nodes of the last layer that are struck by their rough bound, or that one of the first `MOST_LEADERS` exact
+    /// ones that stay dominates; the arcs into it follow.
     pub fn strike<M: DpModel>(&mut self, model: &M, threshold: Option<i64>)
         requires under_way { IsUnderWay (M.meaning (M.numbers model.now)) self.old }
         ensures layers { self.new ≡ record self.old {
@@ -226,8 +226,8 @@ impl Workspace {
         );
     }
 
-    /// Takes out the nodes of the last layer that one of the first 16 exact ones that stay dominates; the arcs into it follow. No
-    /// node is struck.
+    /// Takes out the nodes of the last layer that one of the first `MOST_LEADERS` exact ones that stay dominates; the arcs into it
+    /// follow. No node is struck.
     fn drop_dominated<M: DpModel>(&mut self, model: &M)
         requires under_way { IsUnderWay (M.meaning (M.numbers model.now)) self.old }
         ensures layers { self.new ≡ record self.old {

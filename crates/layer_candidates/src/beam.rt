@@ -182,8 +182,8 @@ impl Beam {
     }
 
     /// The beam below a prefix with its state and value: its value, with its decisions in `out`, or none where there is none;
-    /// and whether the width took a member from a layer. The region has free rows for the members of
-    /// a layer and the candidates of the next one, and is as before afterwards. It takes no memory.
+    /// and whether the width took a member from a layer. The region has free rows for the members of a layer and the candidates
+    /// of the next one, and is as before afterwards. It takes no memory.
     pub fn beam<M: DpModel>(
         &mut self,
         region: &mut Region,

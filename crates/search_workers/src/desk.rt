@@ -33,8 +33,7 @@ pub struct Desk {
 impl Desk {
     /// A desk for the rounds on the model with diagrams of the width, which is at least 1 and at most the greatest one, and with
     /// their children of the kind. Where there is a book, it has diagrams of the model's instance alone. The layers of relaxed
-    /// diagrams are made in this many parts, from 1 to
-    /// `MOST_LAYER_PARTS`.
+    /// diagrams are made in this many parts, from 1 to `MOST_LAYER_PARTS`.
     pub fn prepare<M: DpModel>(
         alloc: Global,
         model: &M,

@@ -1,7 +1,8 @@
 //! The program: `main` and the edge to the outside.
 //!
 //! `main` calls `run` of `commands` with the command's words, standard input, standard output and a file. What a run does, and how it ends,
-//! is said there. Here the words are read, and the status becomes the exit status.
+//! is said there. Here the words are read, and the status becomes the exit status. It stands on `commands`, and on `answers`,
+//! `solver_report`, `search_workers`, `streams` and `disk` for what it gives to `run`.
 //!
 //! ```text
 //! solver_cli solve knapsack < INSTANCE
