@@ -1,4 +1,4 @@
-ghost use Rattle.std.specs.Prelude.{◌≡◌, ◌∷◌, [], ◌+◌, ◌*◌, ◌<◌, ◌≤◌, ◌^◌, ℕ, nat_le, cond, length, pos, Some, None, IsTrue};
+ghost use Rattle.std.specs.Prelude.{◌≡◌, ◌∷◌, [], ◌*◌, ◌<◌, ◌≤◌, ◌^◌, ℕ, nat_le, cond, length, pos, Some, None, IsTrue};
 ghost use Rattle.dp_model.specs.Gaps.{within};
 ghost use Rattle.knapsack.specs.Program.{left, is_left, item_at, rough_from};
 ghost use Rattle.knapsack.specs.Limits.{IsSmallItem};
@@ -6,15 +6,33 @@ ghost use Rattle.knapsack.specs.Limits.{IsSmallItem};
 use crate::filling::filled;
 use crate::instance::Knapsack;
 use crate::item::Item;
-use dp_model::DpModel;
+use dp_model::{DpModel, Extended};
 
 /// Writes a state of one cell.
+#[inline]
 fn write(out: &mut [i64], left: u64)
     requires cell { length out.old ≡ 1 }
     requires fits { left < 2 ^ 63 }
     ensures { out.new ≡ pos left ∷ [] }
 {
     out.copy_from_slice(&[left as i64]);
+}
+
+/// What copies of an item weigh.
+#[inline]
+fn weight(item: Item, copies: u32) -> u64
+    ensures { result ≡ copies * item.weight }
+{
+    u64::from(copies) * u64::from(item.weight)
+}
+
+/// What copies of an item are worth.
+#[inline]
+fn profit(item: Item, copies: u32) -> i64
+    requires { IsSmallItem item }
+    ensures { result ≡ pos (copies * item.profit) }
+{
+    i64::from(copies) * i64::from(item.profit)
 }
 
 /// A gap of 0 where that is at most `most` and the one capacity is no less than the other. The ranks are what is left of them.
@@ -30,6 +48,7 @@ fn gap_within(rank_a: i64, rank_s: i64, most: i64) -> Option<i64>
 
 impl Knapsack {
     /// The item that a layer decides.
+    #[inline]
     fn item(&self, k: usize) -> Item
         requires { k < length self.now.items.items }
         ensures value { result ≡ item_at self.now.items.items k }
@@ -38,26 +57,8 @@ impl Knapsack {
         self.items[k]
     }
 
-    /// What copies of an item weigh.
-    fn weight(&self, k: usize, copies: u32) -> u64
-        requires layer { k < length self.now.items.items }
-        requires few { copies < (item_at self.now.items.items k).copies + 1 }
-        ensures value { result ≡ copies * (item_at self.now.items.items k).weight }
-    {
-        u64::from(copies) * u64::from(self.item(k).weight)
-    }
-
-    /// What copies of an item are worth.
-    fn profit(&self, k: usize, copies: u32) -> u64
-        requires layer { k < length self.now.items.items }
-        requires few { copies < (item_at self.now.items.items k).copies + 1 }
-        ensures value { result ≡ copies * (item_at self.now.items.items k).profit }
-        ensures small { result < 2 ^ 63 }
-    {
-        u64::from(copies) * u64::from(self.item(k).profit)
-    }
-
     /// The capacity that a state has left.
+    #[inline]
     fn left(&self, s: &[i64]) -> u64
         requires { IsTrue (is_left self.now.capacity s.now) }
         ensures value { result ≡ left s.now }
@@ -66,14 +67,13 @@ impl Knapsack {
         s[0] as u64
     }
 
-    /// The greedy fill of what a state has left, by the items from the layer on.
-    fn fill(&self, k: usize, s: &[i64]) -> u64
-        requires layer { k ≤ length self.now.items.items }
-        requires state { IsTrue (is_left self.now.capacity s.now) }
-        ensures value { result ≡ rough_from self.now.items.items k (left s.now) }
+    /// The greedy fill of what is left, by the items from the layer on.
+    fn fill(&self, k: usize, room: u64) -> u64
+        requires { k ≤ length self.now.items.items }
+        ensures value { result ≡ rough_from self.now.items.items k room }
         ensures small { result < 2 ^ 63 }
     {
-        filled(&self.runs[k], self.left(s))
+        filled(&self.runs[k], room)
     }
 
     /// Whether a row of one cell is a capacity that may be left.
@@ -121,15 +121,15 @@ impl DpModel for Knapsack {
     }
 
     fn allowed(&self, k: usize, s: &[i64], d: u32) -> bool {
-        self.weight(k, d) <= self.left(s)
+        weight(self.item(k), d) <= self.left(s)
     }
 
     fn step(&self, k: usize, s: &[i64], d: u32, out: &mut [i64]) {
-        write(out, self.left(s) - self.weight(k, d));
+        write(out, self.left(s) - weight(self.item(k), d));
     }
 
     fn gain(&self, k: usize, _s: &[i64], d: u32) -> i64 {
-        self.profit(k, d) as i64
+        profit(self.item(k), d)
     }
 
     fn merge_into(&self, _k: usize, acc: &mut [i64], s: &[i64]) {
@@ -159,11 +159,35 @@ impl DpModel for Knapsack {
     }
 
     fn rough(&self, k: usize, s: &[i64]) -> Option<i64> {
-        Some(self.fill(k, s) as i64)
+        Some(self.fill(k, self.left(s)) as i64)
+    }
+
+    #[inline]
+    fn rough_by_rank(&self, k: usize, _s: &[i64], rank: i64) -> Option<i64> {
+        Some(self.fill(k, rank as u64) as i64)
     }
 
     fn rank(&self, _k: usize, s: &[i64]) -> i64 {
         self.left(s) as i64
+    }
+
+    #[inline(always)]
+    fn extend(
+        &self,
+        k: usize,
+        _s: &[i64],
+        rank: i64,
+        d: u32,
+        _zeros: usize,
+        out: &mut [i64],
+    ) -> Option<Extended> {
+        let item = self.item(k);
+        let rest = (rank as u64).checked_sub(weight(item, d))?;
+        write(out, rest);
+        Some(Extended {
+            gain: profit(item, d),
+            rank: rest as i64,
+        })
     }
 
     #[inline]

@@ -1,11 +1,10 @@
-use Rattle.std.proofs.Common.{◌≡◌, ℕ, ◌<◌, ◌≤◌, length, get_or, arith, ap, ◌∙◌, sym, subst}
+use Rattle.std.proofs.Common.{◌≡◌, ℕ, ◌<◌, ◌≤◌, length, get_or, arith, ap, ◌∙◌, sym, subst, refl}
 use Rattle.knapsack.specs.declared.instance.Knapsack.{Knapsack}
 use Rattle.knapsack.specs.declared.running.Runs.{Runs}
 use Rattle.knapsack.specs.Laws.Sizes.{rough_small}
 use Rattle.knapsack.specs.Laws.Limits.{is_small-is}
 use Rattle.knapsack.specs.Limits.{AreSmall}
 use Rattle.knapsack.specs.Placed.{kept_from}
-use Rattle.knapsack.specs.Program.{left}
 use Rattle.knapsack.specs.Runs.{AreRunsOf}
 use Rattle.knapsack.specs.Shown.{instance_in}
 use Rattle.knapsack.proofs.Placing.{placed_are_small, filled_is, length-placed_from}
@@ -26,21 +25,21 @@ runs_at : (m : Knapsack) (k : ℕ) (runs : Runs) → k ≤ length m.items.items 
 runs_at m k runs within is = subst (AreRunsOf (kept_from k m.order.items)) (sym is) (m.layered.each k runs (layers m k within))
 
 pub index-requires : goal.index-requires
-index-requires c = let below = layers c.args.self.now c.args.k c.requires.layer in omega arith
+index-requires c = let below = layers c.args.self.now c.args.k c.requires in omega arith
 
 pub filled-requires : goal.filled-requires
 filled-requires c =
     let m = c.args.self.now in
-    record { items = kept_from c.args.k m.order.items; small = small_from m c.args.k; are = runs_at m c.args.k c.index.result.now c.requires.layer c.index.ensures }
+    record { items = kept_from c.args.k m.order.items; small = small_from m c.args.k; are = runs_at m c.args.k c.index.result.now c.requires c.index.ensures }
 
 pub returns-clause-value : goal.returns-clause-value
 returns-clause-value c =
     let m = c.args.self.now in
-    c.filled.ensures (kept_from c.args.k m.order.items) (small_from m c.args.k) (runs_at m c.args.k c.index.result.now c.requires.layer c.index.ensures)
-    ∙ filled_is m.items.items m.order.items c.args.k c.left.result (left c.args.s.now) m.ordered c.left.ensures.value
+    c.filled.ensures (kept_from c.args.k m.order.items) (small_from m c.args.k) (runs_at m c.args.k c.index.result.now c.requires c.index.ensures)
+    ∙ filled_is m.items.items m.order.items c.args.k c.args.room c.args.room m.ordered refl
 
 pub returns-clause-small : goal.returns-clause-small
 returns-clause-small c =
     let small = is_small-is (instance_in c.args.self.now) c.args.self.now.small in
-    let most = rough_small c.args.self.now.items.items c.args.k (left c.args.s.now) small.items small.count in
+    let most = rough_small c.args.self.now.items.items c.args.k c.args.room small.items small.count in
     omega (arith, returns-clause-value c, most)
