@@ -7,6 +7,7 @@ pub mod Best
 pub mod Cover
 pub mod Counts
 pub mod Gaps
+pub mod Fingerprints
 pub mod Laws
 pub mod Rows
 pub mod Folds

@@ -29,7 +29,7 @@ pub use limits::{
     MOST_CHOICES, MOST_COST, MOST_DISTANCE, MOST_LAYER_PARTS, MOST_LEADERS, MOST_WIDTH,
     MOST_WORKERS,
 };
-pub use model::{DpModel, Extended};
+pub use model::{DpModel, Extended, Fingerprint};
 pub use rows::row_same;
 pub use std::alloc::AllocError as OutOfMemory;
 pub use sub::Sub;

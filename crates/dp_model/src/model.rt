@@ -1,7 +1,8 @@
-ghost use Rattle.std.specs.Prelude.{◌≡◌, ℕ, ◌+◌, ◌<◌, ◌≤◌, ℤ, pos, List, length, replicate, take, false, is_some, IsNone, IsSome, IfSome, IsTrue};
+ghost use Rattle.std.specs.Prelude.{◌≡◌, ℕ, ◌+◌, ◌<◌, ◌≤◌, ℤ, pos, List, length, replicate, take, false, None, is_some, IsNone, IsSome, IfSome, IsTrue};
 ghost use Rattle.dp_model.specs.Dp.{Dp, IsAllowed};
 ghost use Rattle.dp_model.specs.Laws.{IsLawful, IsChained, MergesInAnyOrder};
 ghost use Rattle.dp_model.specs.Gaps.{IsStateOf, within};
+ghost use Rattle.dp_model.specs.Fingerprints.{IsFingerprint};
 
 /// What `DpModel::extend` answers for an allowed decision.
 #[derive(Clone, Copy, Debug, PartialEq, Eq)]
@@ -10,6 +11,15 @@ pub struct Extended {
     pub gain: i64,
     /// The rank of the state that it leads to.
     pub rank: i64,
+}
+
+/// What is known of a state without its row.
+#[derive(Clone, Copy, Debug, PartialEq, Eq)]
+pub struct Fingerprint {
+    /// The rank of the state.
+    pub rank: i64,
+    /// The hash of the state.
+    pub hash: u64,
 }
 
 /// A problem that is given as a dynamic program.
@@ -28,8 +38,8 @@ pub struct Extended {
 /// 6. `vars`, `words` and `choices` are at most 1,024; cells, gains, gaps, rough bounds and the root value are at most 2^50 in
 ///    size.
 ///
-/// `covers_within`, `extend`, `next_hash`, `rough_by_rank`, `first_live`, `next_choice` and `merges_in_any_order` are there for speed. Each
-/// has a body that uses the other calls, or none. A problem replaces this body if a shorter way is known.
+/// `covers_within`, `may_cover`, `extend`, `next_hash`, `rough_by_rank`, `first_live`, `next_choice` and `merges_in_any_order` are there for
+/// speed. Each has a body that uses the other calls, or none. A problem replaces this body if a shorter way is known.
 pub trait DpModel: Send + Sync + Drop {
     /// The numbers that describe the instance.
     ghost numbers: { Self → List ℤ };
@@ -140,6 +150,28 @@ pub trait DpModel: Send + Sync + Drop {
         if gap <= most { Some(gap) } else { None }
     }
 
+    /// Whether there may be a gap from `a` to `s` that is at most `most`, as far as the fingerprints of both states tell. `false` only
+    /// if there is none.
+    ///
+    /// A problem whose gaps have a lower bound by ranks or hashes answers by it here, and no row is read. `true` is always right.
+    fn may_cover(
+        &self,
+        k: usize,
+        a: &[i64],
+        of_a: Fingerprint,
+        s: &[i64],
+        of_s: Fingerprint,
+        most: i64,
+    ) -> bool
+        requires covering { IsStateOf (meaning (numbers self.now)) k a.now }
+        requires covering_print { IsFingerprint (meaning (numbers self.now)) k a.now of_a }
+        requires state { IsStateOf (meaning (numbers self.now)) k s.now }
+        requires print { IsFingerprint (meaning (numbers self.now)) k s.now of_s }
+        ensures { result ≡ false → within most ((meaning (numbers self.now)).gap k a.now s.now) ≡ None }
+    {
+        true
+    }
+
     /// Does `allowed`, `step`, `gain` and `rank` of the next state in one pass. `None` exactly if the decision is not allowed;
     /// then `out` is unchanged.
     ///
@@ -222,8 +254,8 @@ pub trait DpModel: Send + Sync + Drop {
         from
     }
 
-    /// Whether the order in which states of a layer are merged makes no difference. Then a layer that is reduced by merging puts
-    /// only the nodes in order that stay. `false` is always right.
+    /// Whether the order in which states of a layer are merged makes no difference. If so, a layer without exact nodes that is merged
+    /// to the width sorts only the nodes that stay. `false` is always right.
     fn merges_in_any_order(&self) -> bool
         ensures { IsTrue result → MergesInAnyOrder (meaning (numbers self.now)) }
     {

@@ -1,6 +1,6 @@
 use crate::listing::PairProblem;
 use crate::pair_model::PairModel;
-use dp_model::{DpModel, Extended};
+use dp_model::{DpModel, Extended, Fingerprint};
 
 impl<P: PairProblem> DpModel for PairModel<P> {
     ghost use Rattle.pair_rows.specs.Laws.Sizes.{lawful_program};
@@ -73,6 +73,18 @@ impl<P: PairProblem> DpModel for PairModel<P> {
         most: i64,
     ) -> Option<i64> {
         self.rows.covers_within(k, a, rank_a, s, rank_s, most)
+    }
+
+    fn may_cover(
+        &self,
+        k: usize,
+        a: &[i64],
+        of_a: Fingerprint,
+        s: &[i64],
+        of_s: Fingerprint,
+        most: i64,
+    ) -> bool {
+        self.rows.may_cover(k, a, of_a, s, of_s, most)
     }
 
     fn extend(

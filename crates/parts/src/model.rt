@@ -3,7 +3,7 @@ ghost use Rattle.std.specs.Arc.{arc_value};
 ghost use Rattle.dp_model.specs.Rows.{row_same};
 
 use crate::part::Part;
-use dp_model::{DpModel, Extended, row_same};
+use dp_model::{DpModel, Extended, Fingerprint, row_same};
 
 #[tactic(auto, using(crate::specs::Laws::state_test, crate::specs::Laws::whole_state))]
 impl<M: DpModel> DpModel for Part<M> {
@@ -124,6 +124,18 @@ impl<M: DpModel> DpModel for Part<M> {
         } else {
             None
         }
+    }
+
+    fn may_cover(
+        &self,
+        k: usize,
+        a: &[i64],
+        of_a: Fingerprint,
+        s: &[i64],
+        of_s: Fingerprint,
+        most: i64,
+    ) -> bool {
+        k == 0 || self.model.may_cover(k, a, of_a, s, of_s, most)
     }
 
     fn next_hash(&self, k: usize, s: &[i64], hash: u64, d: u32, next: &[i64]) -> u64 {

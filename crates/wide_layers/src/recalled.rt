@@ -3,7 +3,7 @@ ghost use Rattle.wide_layers.specs.Pieces.{AllRight};
 
 use crate::hand::Hand;
 use crate::piece::Piece;
-use dp_model::{DpModel, Extended};
+use dp_model::{DpModel, Extended, Fingerprint};
 
 /// A model that copies candidates which were made before. It answers as the model that it stands on; for the layer below `depth`
 /// its `extend` first compares the next candidate, and copies it if the state and the decision are the same.
@@ -108,6 +108,18 @@ impl<'p, M: DpModel> DpModel for Recalled<'p, M> {
         most: i64,
     ) -> Option<i64> {
         self.model.covers_within(k, a, rank_a, s, rank_s, most)
+    }
+
+    fn may_cover(
+        &self,
+        k: usize,
+        a: &[i64],
+        of_a: Fingerprint,
+        s: &[i64],
+        of_s: Fingerprint,
+        most: i64,
+    ) -> bool {
+        self.model.may_cover(k, a, of_a, s, of_s, most)
     }
 
     fn extend(
