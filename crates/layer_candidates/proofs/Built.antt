@@ -161,7 +161,7 @@ pub record MayDescend (dp : Dp) (k most : ℕ) (b : Beam) (region : RegionView) 
 memory-less : (words m n : ℕ) (c : Candidates) → HasMemory words n c → m ≤ n → HasMemory words m c
 memory-less words m n c h less =
     let four = h.keys in let five = h.kept in let six = h.small in
-    record { parent = h.parent; table = room-kept m n c.table c.table (keeps-self c.table) less h.table; keys = omega arith; kept = omega arith; leaders = h.leaders; small = omega arith }
+    record { parent = h.parent; table = room-kept m n c.table c.table (keeps-self c.table) less h.table; keys = omega arith; kept = omega arith; small = omega arith }
 
 zero-or : (m : ℕ) → (m ≡ 0) ⊎ ((m ≡ 1) ⊎ (1 < m))
 zero-or m = grind arith

@@ -31,7 +31,7 @@ use Rattle.layer_candidates.specs.Ways.{way_at, rows_of, way_row, reached_at, al
 use Rattle.layer_candidates.proofs.Descended.{descended, entered-rows, entered-same}
 use Rattle.layer_candidates.proofs.HeldRows.{held-same, way-each, exchange-then, left-moved}
 use Rattle.layer_candidates.proofs.Joined.{last_or}
-use Rattle.layer_candidates.proofs.Pruned.{keys-same}
+use Rattle.layer_candidates.proofs.Pruned.{keys-same, of-ways-same}
 use Rattle.layer_candidates.proofs.Sorted.{key-row, key-places-of, sorted-same, unstruck-of, unstruck-rows, unstruck-are, unstruck-in-order}
 use Rattle.row_region.specs.Region.{RegionView, IsLive}
 
@@ -113,11 +113,6 @@ pub held-each : (dp : Dp) (k n : ℕ) (region : RegionView) (ways : List Way) (k
 held-each dp k n region ways [] h of = tt
 held-each dp k n region ways (key ∷ keys) h of = (record { live = h.0.live; state = h.0.state; rank = h.0.rank; hash = of.0.hash }, held-each dp k (n + 1) region ways keys h.1 of.1)
 
--- where the rows of the keys stay
-of-ways-same : (dp : Dp) (k : ℕ) (old new : RegionView) (ways : List Way) (keys : List Key) → Each (λ key. held_row new key.row ≡ held_row old key.row) keys → Each (IsOfWay dp k old ways) keys → Each (IsOfWay dp k new ways) keys
-of-ways-same dp k old new ways [] same of = tt
-of-ways-same dp k old new ways (key ∷ keys) same of = (record { within = of.0.within; hash = of.0.hash ∙ ap (dp.hash k) (sym same.0) }, of-ways-same dp k old new ways keys same.1 of.1)
-
 each-row : (P : ℕ → Type 0) (keys : List Key) → Each P (key_rows keys) → Each (λ key. P key.row) keys
 each-row P [] h = tt
 each-row P (key ∷ keys) h = (h.0, each-row P keys h.1)
@@ -160,6 +155,9 @@ module _ (dp : Dp) (k : ℕ) (t : Option ℤ) (above r1 r2 : RegionView) (member
   pub layer-in : Each (IsKeyIn dp (k + 1) r2) keys
   layer-in = keys-same dp (k + 1) r1 r2 keys ordered.same (key-in dp (k + 1) r1 ways h.distinct.good h.exchanged.live.live keys layer-keys)
 
+  pub layer-of : Each (IsOfWay dp (k + 1) r2 ways) keys
+  layer-of = of-ways dp (k + 1) r1 r2 ways h.distinct.good keys layer-keys keys-still
+
   pub whole : (paths : ℕ → List ℕ) → undominated dp (k + 1) [] (all_keyed paths r2 ways keys) ≡ whole_layer dp k t (members_as paths above members)
   whole paths =
       let sorted = sorted-same (held_row r2) (held_row r1) keys (Each-then (λ (key : Key). held_row r2 key.row ≡ held_row r1 key.row) (λ (key : Key). held_row r1 key.row ≡ held_row r2 key.row) keys (λ key e. sym e) keys-still) h.sorted in
@@ -169,7 +167,7 @@ module _ (dp : Dp) (k : ℕ) (t : Option ℤ) (above r1 r2 : RegionView) (member
 
   module _ (most : ℕ) (r3 : RegionView) (kept : List Key) (more : Bool) (done : HasPruned dp (k + 1) most r2 keys kept more) (left : HasLeft r2 (key_rows keys) r3 (key_rows kept)) (steps : List Step) where
     kept-of : Each (IsOfWay dp (k + 1) r2 ways) kept
-    kept-of = done.own ways (of-ways dp (k + 1) r1 r2 ways h.distinct.good keys layer-keys keys-still)
+    kept-of = done.own ways layer-of
 
     pub kept-places : Each (λ key. key.place < length ways) kept
     kept-places = Each-then (IsOfWay dp (k + 1) r2 ways) (λ key. key.place < length ways) kept (λ key h. h.within) kept-of
@@ -190,9 +188,8 @@ module _ (dp : Dp) (k : ℕ) (t : Option ℤ) (above r1 r2 : RegionView) (member
 
     pub next-held : Each (IsHeldAt dp (k + 1) r3) (entered ways (length steps) kept)
     next-held =
-        let live = Each-then (IsKeyIn dp (k + 1) r2) (λ (key : Key). IsLive r2 key.row) kept (λ key h. h.live) done.within in
         held-each dp (k + 1) (length steps) r3 ways kept (keys-same dp (k + 1) r2 r3 kept left.same done.within)
-        (of-ways-same dp (k + 1) r2 r3 ways kept (rows-same r2 r3 kept left.same live) kept-of)
+        (of-ways-same dp (k + 1) r2 r3 ways kept left.same done.within kept-of)
 
     pub next-exchanged : HasExchanged above (member_rows members) r3 (member_rows (entered ways (length steps) kept))
     next-exchanged =

@@ -16,7 +16,7 @@ use Rattle.layer_candidates.specs.declared.key.Key.{Key}
 use Rattle.layer_candidates.specs.declared.way.Way.{Way}
 use Rattle.layer_candidates.specs.HeldRows.{AreSame, HasLeft, held_row}
 use Rattle.layer_candidates.specs.KeyOrder.{key_at, key_rows}
-use Rattle.layer_candidates.specs.Pruning.{keyed, all_keyed, IsKeyIn, IsOfWay, led_by, with_leader, ArePruned, HasPruned}
+use Rattle.layer_candidates.specs.Pruning.{keyed, all_keyed, IsKeyIn, IsOfWay, led_by, ArePruned, HasPruned}
 use Rattle.layer_candidates.specs.Ways.{rows_of, way_row, AreWays}
 use Rattle.layer_candidates.proofs.HeldRows.{each-here, each-left, each-right, held-same, way-each}
 use Rattle.row_region.specs.Region.{RegionView, IsLive}
@@ -40,6 +40,13 @@ module _ (dp : Dp) (k : ℕ) (old new : RegionView) where
   pub keys-same : (keys : List Key) → AreSame old new (key_rows keys) → Each (IsKeyIn dp k old) keys → Each (IsKeyIn dp k new) keys
   keys-same [] same h = tt
   keys-same (key ∷ keys) same h = (key-same key same.0 h.0, keys-same keys same.1 h.1)
+
+  way-same : (ways : List Way) (key : Key) → slice_get new.rows key.row ≡ slice_get old.rows key.row → IsKeyIn dp k old key → IsOfWay dp k old ways key → IsOfWay dp k new ways key
+  way-same ways key same h of = record { within = of.within; hash = of.hash ∙ ap (dp.hash k) (sym (held-same old new key.row h.live same)) }
+
+  pub of-ways-same : (ways : List Way) (keys : List Key) → AreSame old new (key_rows keys) → Each (IsKeyIn dp k old) keys → Each (IsOfWay dp k old ways) keys → Each (IsOfWay dp k new ways) keys
+  of-ways-same ways [] same h of = tt
+  of-ways-same ways (key ∷ keys) same h of = (way-same ways key same.0 h.0 of.0, of-ways-same ways keys same.1 h.1 of.1)
 
   -- the leaders dominate the same key
   pub led-same : (leaders : List Key) (key : Key) → AreSame old new (key_rows leaders) → Each (IsKeyIn dp k old) leaders → slice_get new.rows key.row ≡ slice_get old.rows key.row → IsKeyIn dp k old key
@@ -76,6 +83,10 @@ some-cond false g = refl
 pub covered : (gap : Option ℤ) (a v : ℤ) → is_some (within (a -ℤ v) gap) ≡ covers_at gap a v
 covered None a v = refl
 covered (Some g) a v = some-cond (int_le g (a -ℤ v)) g ∙ compared g a v
+
+-- the leaders after a key that stays: it becomes one while there are fewer than `MOST_LEADERS`
+abbrev with_leader : List Key → Key → List Key
+with_leader leaders key = cond (nat_le MOST_LEADERS (length leaders)) leaders (leaders ++ key ∷ [])
 
 module _ (dp : Dp) (k : ℕ) (region : RegionView) where
   pub led-keyed : (paths : ℕ → List ℕ) (ways : List Way) (leaders : List Key) (key : Key)
@@ -122,27 +133,33 @@ first-same old new zero keys same = tt
 first-same old new (suc n) [] same = tt
 first-same old new (suc n) (key ∷ keys) same = (same.0, first-same old new n keys same.1)
 
-pub record IsLooked (dp : Dp) (k : ℕ) (old region : RegionView) (leaders : List Key) (key : Key) (before front following : List ℕ) : Type 0 where
+pub record IsLooked (dp : Dp) (k : ℕ) (old region : RegionView) (ways : List Way) (leaders : List Key) (key : Key) (before front following : List ℕ) : Type 0 where
   pub leading : Each (IsKeyIn dp k region) leaders
+  pub leader_ways : Each (IsOfWay dp k region ways) leaders
   pub one : IsKeyIn dp k region key
+  pub way : IsOfWay dp k region ways key
   pub led : led_by dp k region leaders key ≡ led_by dp k old leaders key
   pub left : HasLeft old before region (front ++ key.row ∷ following)
 
-pub looked : (dp : Dp) (k most : ℕ) (old region : RegionView) (keys leaders kept : List Key) (i : ℕ) → Each (IsKeyIn dp k old) keys → i < length keys → ArePruned dp k most old keys leaders kept i
+pub looked : (dp : Dp) (k most : ℕ) (old region : RegionView) (ways : List Way) (keys kept : List Key) (i : ℕ) → Each (IsKeyIn dp k old) keys → Each (IsOfWay dp k old ways) keys → i < length keys → ArePruned dp k most old keys kept i
     → HasLeft old (key_rows keys) region (key_rows kept ++ key_rows (drop i keys))
-    → IsLooked dp k old region leaders (get_or keys i none) (key_rows keys) (key_rows kept) (key_rows (drop (i + 1) keys))
-looked dp k most old region keys leaders kept i all less h left =
+    → IsLooked dp k old region ways (take MOST_LEADERS kept) (get_or keys i none) (key_rows keys) (key_rows kept) (key_rows (drop (i + 1) keys))
+looked dp k most old region ways keys kept i all of less h left =
     let key = get_or keys i none in
+    let leaders = take MOST_LEADERS kept in
     let Same = λ (p : ℕ). slice_get region.rows p ≡ slice_get old.rows p in
     let next : key_rows (drop i keys) ≡ key.row ∷ key_rows (drop (i + 1) keys) = ap key_rows (drop_more keys i none less) in
     let now = subst (λ ps. HasLeft old (key_rows keys) region (key_rows kept ++ ps)) next left in
     let one = each-here (IsKeyIn dp k old) keys i none all less in
+    let way = each-here (IsOfWay dp k old ways) keys i none of less in
     let stays = (each-right Same (key_rows kept) (key.row ∷ key_rows (drop (i + 1) keys)) now.same).0 in
-    let same = subst (λ l. AreSame old region (key_rows l)) (sym h.leading) (first-same old region MOST_LEADERS kept (each-left Same (key_rows kept) (key_rows (drop i keys)) left.same)) in
-    let leading = subst (Each (IsKeyIn dp k old)) (sym h.leading) (each-take (IsKeyIn dp k old) MOST_LEADERS kept h.within) in
+    let same = first-same old region MOST_LEADERS kept (each-left Same (key_rows kept) (key_rows (drop i keys)) left.same) in
+    let leading = each-take (IsKeyIn dp k old) MOST_LEADERS kept h.within in
     record {
       leading = keys-same dp k old region leaders same leading;
+      leader_ways = of-ways-same dp k old region ways leaders same leading (each-take (IsOfWay dp k old ways) MOST_LEADERS kept (h.own ways of));
       one = key-same dp k old region key stays one;
+      way = way-same dp k old region ways key stays one way;
       led = led-same dp k old region leaders key same leading stays one;
       left = now;
     }
@@ -157,15 +174,21 @@ goes dp k ls r rs out = ap (λ c. cond c [] (r ∷ []) ++ undominated dp k (cond
 stays : (dp : Dp) (k : ℕ) (ls : List Reached) (r : Reached) (rs : List Reached) → dominated dp k ls r ≡ false → undominated dp k ls (r ∷ rs) ≡ r ∷ undominated dp k (cond (nat_le MOST_LEADERS (length ls)) ls (ls ++ r ∷ [])) rs
 stays dp k ls r rs out = ap (λ c. cond c [] (r ∷ []) ++ undominated dp k (cond (c || nat_le MOST_LEADERS (length ls)) ls (ls ++ r ∷ [])) rs) out
 
-module _ (dp : Dp) (k : ℕ) (most : ℕ) (region : RegionView) (keys leaders kept : List Key) (i : ℕ) (d : Key)
-    (h : ArePruned dp k most region keys leaders kept i) (less : i < length keys) where
+module _ (dp : Dp) (k : ℕ) (most : ℕ) (region : RegionView) (keys kept : List Key) (i : ℕ) (d : Key)
+    (h : ArePruned dp k most region keys kept i) (less : i < length keys) where
   abbrev key : Key
   key = get_or keys i d
+
+  abbrev leaders : List Key
+  leaders = take MOST_LEADERS kept
+
+  abbrev later : (ℕ → List ℕ) → List Way → List Reached
+  later paths ways = undominated dp k (all_keyed paths region ways (take MOST_LEADERS (kept ++ key ∷ []))) (all_keyed paths region ways (drop (i + 1) keys))
 
   next : (paths : ℕ → List ℕ) (ways : List Way) → all_keyed paths region ways (drop i keys) ≡ keyed paths region ways key ∷ all_keyed paths region ways (drop (i + 1) keys)
   next paths ways = ap (all_keyed paths region ways) (drop_more keys i d less)
 
-  pub pruned-out : led_by dp k region leaders key ≡ true → ArePruned dp k most region keys leaders kept (i + 1)
+  pub pruned-out : led_by dp k region leaders key ≡ true → ArePruned dp k most region keys kept (i + 1)
   pruned-out out =
       let low = h.few in
       record {
@@ -173,7 +196,6 @@ module _ (dp : Dp) (k : ℕ) (most : ℕ) (region : RegionView) (keys leaders ke
             let ls = all_keyed paths region ways leaders in
             let gone = goes dp k ls (keyed paths region ways key) (all_keyed paths region ways (drop (i + 1) keys)) (led-keyed dp k region paths ways leaders key ∙ out) in
             ap (λ l. all_keyed paths region ways kept ++ l) (sym (ap (λ l. undominated dp k ls l) (next paths ways) ∙ gone)) ∙ h.list paths ways);
-        leading = h.leading;
         within = h.within;
         own = h.own;
         few = omega arith;
@@ -182,33 +204,28 @@ module _ (dp : Dp) (k : ℕ) (most : ℕ) (region : RegionView) (keys leaders ke
 
   left : (paths : ℕ → List ℕ) (ways : List Way) → led_by dp k region leaders key ≡ false
       → undominated dp k (all_keyed paths region ways leaders) (all_keyed paths region ways (drop i keys))
-      ≡ keyed paths region ways key ∷ undominated dp k (all_keyed paths region ways (with_leader leaders key)) (all_keyed paths region ways (drop (i + 1) keys))
+      ≡ keyed paths region ways key ∷ later paths ways
   left paths ways out =
       let ls = all_keyed paths region ways leaders in
       let rest = all_keyed paths region ways (drop (i + 1) keys) in
       ap (λ l. undominated dp k ls l) (next paths ways)
       ∙ (stays dp k ls (keyed paths region ways key) rest (led-keyed dp k region paths ways leaders key ∙ out)
-      ∙ ap (λ l. keyed paths region ways key ∷ undominated dp k l rest) (sym (leaders-keyed dp k region paths ways leaders key)))
+      ∙ ap (λ l. keyed paths region ways key ∷ undominated dp k l rest) (sym (leaders-keyed dp k region paths ways leaders key) ∙ ap (all_keyed paths region ways) (leaders-first kept key)))
 
-  pub pruned-stays : led_by dp k region leaders key ≡ false → IsKeyIn dp k region key → length kept < most → ArePruned dp k most region keys (with_leader leaders key) (kept ++ key ∷ []) (i + 1)
+  pub pruned-stays : led_by dp k region leaders key ≡ false → IsKeyIn dp k region key → length kept < most → ArePruned dp k most region keys (kept ++ key ∷ []) (i + 1)
   pruned-stays out one short =
       let low = h.few in
       let longer = length_push kept key in
       record {
         list = λ paths ways. (
-            let later = undominated dp k (all_keyed paths region ways (with_leader leaders key)) (all_keyed paths region ways (drop (i + 1) keys)) in
-            ap (λ l. l ++ later) (map-append (keyed paths region ways) kept (key ∷ []))
-            ∙ (append_assoc (all_keyed paths region ways kept) (keyed paths region ways key ∷ []) later
+            ap (λ l. l ++ later paths ways) (map-append (keyed paths region ways) kept (key ∷ []))
+            ∙ (append_assoc (all_keyed paths region ways kept) (keyed paths region ways key ∷ []) (later paths ways)
             ∙ (ap (λ l. all_keyed paths region ways kept ++ l) (sym (left paths ways out)) ∙ h.list paths ways)));
-        leading = ap (λ l. with_leader l key) h.leading ∙ leaders-first kept key;
         within = Each-append (IsKeyIn dp k region) kept (key ∷ []) h.within (one, tt);
         own = λ ways all. Each-append (IsOfWay dp k region ways) kept (key ∷ []) (h.own ways all) (each-here (IsOfWay dp k region ways) keys i d all less, tt);
         few = omega arith;
         most_stay = omega arith;
       }
-
-  abbrev later : (ℕ → List ℕ) → List Way → List Reached
-  later paths ways = undominated dp k (all_keyed paths region ways (with_leader leaders key)) (all_keyed paths region ways (drop (i + 1) keys))
 
   -- there is one more than may stay
   pub pruned-full : led_by dp k region leaders key ≡ false → length kept ≡ most → HasPruned dp k most region keys kept true
@@ -236,8 +253,8 @@ module _ (dp : Dp) (k : ℕ) (most : ℕ) (region : RegionView) (keys leaders ke
       more : (f : List Reached) (r : Reached) (rs : List Reached) → length f ≡ most → nat_lt most (length (f ++ r ∷ rs)) ≡ true
       more f r rs size = let sum = length-append f (r ∷ rs) in grind (arith, nat_tests)
 
-pub pruned-none : (dp : Dp) (k : ℕ) (most : ℕ) (region : RegionView) (keys : List Key) → ArePruned dp k most region keys [] [] 0
-pruned-none dp k most region keys = record { list = λ paths ways. refl; leading = refl; within = tt; own = λ ways all. tt; few = omega arith; most_stay = omega arith }
+pub pruned-none : (dp : Dp) (k : ℕ) (most : ℕ) (region : RegionView) (keys : List Key) → ArePruned dp k most region keys [] 0
+pruned-none dp k most region keys = record { list = λ paths ways. refl; within = tt; own = λ ways all. tt; few = omega arith; most_stay = omega arith }
 
 pub strictly : (p n : ℕ) → p ≤ n → (p ≡ n → ⊥) → p < n
 strictly p n h k = grind arith

@@ -1,7 +1,6 @@
 -- A layer is made from the one above it.
 use Rattle.std.specs.Prelude.{◌≡◌, ℕ, ◌+◌, ◌*◌, ◌^◌, ◌<◌, ◌≤◌, ℤ, List, [], length, Option, IsPermutation, IsSortedBy, vec_len, vec_capacity}
 use Rattle.dp_model.specs.Dp.{Dp}
-use Rattle.dp_model.specs.declared.limits.TheConstants.{MOST_LEADERS}
 use Rattle.dp_laws.specs.Restricted.Extensions.{candidates, all_joined}
 use Rattle.layer_candidates.specs.declared.candidates.Candidates.{Candidates}
 use Rattle.layer_candidates.specs.declared.key.Key.{Key}
@@ -21,7 +20,6 @@ pub record HasMemory (words count : ℕ) (c : Candidates) : Type 0 where
   pub table : HasTableRoom count c.table
   pub keys : count ≤ vec_capacity c.keys
   pub kept : count ≤ vec_capacity c.kept
-  pub leaders : MOST_LEADERS ≤ vec_capacity c.leaders
   pub small : count + 1 < 2 ^ 32
 
 -- the members of the layer at depth k were extended, and the keys are those of their ways that are not struck, in the reduction

@@ -1,5 +1,5 @@
 -- What is struck of the keys, what is dominated of those in order, and what stays.
-use Rattle.std.specs.Prelude.{◌≡◌, ℕ, ◌<◌, ◌≤◌, nat_le, nat_lt, ℤ, Bool, false, not, cond, ◌||◌, List, [], ◌∷◌, ◌++◌, length, map, filter, take, drop, Option}
+use Rattle.std.specs.Prelude.{◌≡◌, ℕ, ◌<◌, ◌≤◌, nat_lt, ℤ, Bool, false, not, ◌||◌, List, [], ◌∷◌, ◌++◌, length, map, filter, take, drop, Option}
 use Rattle.dp_model.specs.Dp.{Dp}
 use Rattle.dp_model.specs.Gaps.{IsStateOf, covers_at, is_struck_by}
 use Rattle.dp_model.specs.Lists.{Each}
@@ -51,16 +51,11 @@ struck dp k t region key = is_struck_by key.value (dp.rough k (held_row region k
 abbrev pub unstruck_keys : Dp → ℕ → Option ℤ → RegionView → List Way → List Key
 unstruck_keys dp k t region ways = filter (λ key. not (struck dp k t region key)) (keys_of ways)
 
--- the leaders after a key that stays: it becomes one while there are fewer than `MOST_LEADERS`
-abbrev pub with_leader : List Key → Key → List Key
-with_leader leaders key = cond (nat_le MOST_LEADERS (length leaders)) leaders (leaders ++ key ∷ [])
-
 -- the first i keys were looked at: some of them stay, no more than `most`, of which the first ones lead
-pub record ArePruned (dp : Dp) (k : ℕ) (most : ℕ) (region : RegionView) (keys leaders kept : List Key) (i : ℕ) : Type 0 where
+pub record ArePruned (dp : Dp) (k : ℕ) (most : ℕ) (region : RegionView) (keys kept : List Key) (i : ℕ) : Type 0 where
   pub list : (paths : ℕ → List ℕ) (ways : List Way) → all_keyed paths region ways kept
-      ++ undominated dp k (all_keyed paths region ways leaders) (all_keyed paths region ways (drop i keys))
+      ++ undominated dp k (all_keyed paths region ways (take MOST_LEADERS kept)) (all_keyed paths region ways (drop i keys))
       ≡ undominated dp k [] (all_keyed paths region ways keys)
-  pub leading : leaders ≡ take MOST_LEADERS kept
   pub within : Each (IsKeyIn dp k region) kept
   pub own : (ways : List Way) → Each (IsOfWay dp k region ways) keys → Each (IsOfWay dp k region ways) kept
   pub few : length kept ≤ i

@@ -16,7 +16,7 @@ use crate::pruning::prune;
 use crate::step::Step;
 use crate::striking::list_unstruck;
 use crate::table::WayTable;
-use dp_model::{DpModel, MOST_LEADERS, OutOfMemory};
+use dp_model::{DpModel, OutOfMemory};
 use row_region::Region;
 use std::alloc::Global;
 
@@ -27,7 +27,6 @@ pub struct Candidates {
     parent: Vec<i64>,
     table: WayTable,
     keys: Vec<Key>,
-    leaders: Vec<Key>,
     kept: Vec<Key>,
 }
 
@@ -41,7 +40,6 @@ impl Candidates {
             parent: vec![in alloc; 0i64; words]?,
             table: WayTable::prepare(alloc, room)?,
             keys: Vec::with_capacity(alloc, room)?,
-            leaders: Vec::with_capacity(alloc, MOST_LEADERS)?,
             kept: Vec::with_capacity(alloc, room)?,
         })
     }
@@ -123,8 +121,8 @@ impl Candidates {
             k + 1,
             limits.width,
             region,
+            self.table.ways.as_slice(),
             self.keys.as_slice(),
-            &mut self.leaders,
             &mut self.kept,
         );
         descend(

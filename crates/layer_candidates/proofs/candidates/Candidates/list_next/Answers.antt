@@ -52,13 +52,12 @@ returns-clause-listed g c =
 
 pub returns-clause-memory : goal.returns-clause-memory
 returns-clause-memory g c = λ words count h.
-    let parent = h.parent in let keys = h.keys in let kept = h.kept in let leaders = h.leaders in let small = h.small in
+    let parent = h.parent in let keys = h.keys in let kept = h.kept in let small = h.small in
     let some = c.list_unstruck.ensures.capacity in
     record {
       parent = search rules;
       table = room-kept count count c.args.self.now.table c.extend_layer.new.table c.extend_layer.ensures.room (omega arith) h.table;
       keys = search rules;
       kept = h.kept;
-      leaders = h.leaders;
       small = h.small;
     }
