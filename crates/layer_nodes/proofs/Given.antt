@@ -5,6 +5,7 @@ use Rattle.dp_model.specs.Dp.{Dp}
 use Rattle.dp_model.specs.Lists.{Each}
 use Rattle.dp_model.proofs.Members.{Has, Has-append-left, Has-append-right, Each-append, Each-then}
 use Rattle.dp_model.specs.declared.limits.TheConstants.{MOST_LEADERS}
+use Rattle.dp_model.specs.declared.model.Fingerprint.{Fingerprint}
 use Rattle.dp_laws.specs.Rules.Pruning.{Leader}
 use Rattle.layer_candidates.specs.HeldRows.{AreLive, HasExchanged, held_row}
 use Rattle.layer_candidates.proofs.HeldRows.{each-left, each-right, held-is, exchange-self, exchange-then}
@@ -12,7 +13,7 @@ use Rattle.row_region.specs.Region.{RegionView, IsRow, IsLive}
 use Rattle.layer_nodes.specs.declared.node.Node.{Node}
 use Rattle.layer_nodes.specs.declared.redirecting.LeaderAt.{LeaderAt}
 use Rattle.layer_nodes.specs.Holding.{HaveRows}
-use Rattle.layer_nodes.specs.Leading.{IsRowWith, IsIn, IsNodeIn, IsLeaderIn, IsNodeBy, IsLeaderBy, leader_of, leaders_of, led_at, bare}
+use Rattle.layer_nodes.specs.Leading.{IsRowWith, IsIn, IsNodeIn, IsLeaderIn, IsNodeBy, IsLeaderBy, leader_of, leaders_of, led_at, print_of, bare}
 use Rattle.layer_nodes.specs.Steps.{AreAmong}
 use Rattle.layer_nodes.specs.Stored.{rows_in}
 use Rattle.layer_nodes.specs.Striking.{HasGiven}
@@ -25,18 +26,18 @@ abbrev rows_led : List LeaderAt → List ℕ
 rows_led leaders = map (λ (leader : LeaderAt). leader.row) leaders
 
 module _ (dp : Dp) (k : ℕ) (region : RegionView) (row : ℕ → List ℤ) where
-  pub in-by : (place : ℕ) (number rank : ℤ) → IsRow region place (row place) → IsRowWith dp k (row place) number rank → IsIn dp k region place number rank
-  in-by place number rank here known =
+  pub in-by : (place : ℕ) (number : ℤ) (print : Fingerprint) → IsRow region place (row place) → IsRowWith dp k (row place) number print → IsIn dp k region place number print
+  in-by place number print here known =
       let same = held-is region place (row place) here.found in
-      record { found = subst (IsRow region place) (sym same) here; with_row = subst (λ r. IsRowWith dp k r number rank) (sym same) known }
+      record { found = subst (IsRow region place) (sym same) here; with_row = subst (λ r. IsRowWith dp k r number print) (sym same) known }
 
   pub nodes-by : (nodes : List Node) → HaveRows region row (rows_in nodes) → Each (IsNodeBy dp k row) nodes → Each (IsNodeIn dp k region) nodes
   nodes-by [] have known = tt
-  nodes-by (node ∷ nodes) have known = (in-by node.row node.value node.rank have.0 known.0, nodes-by nodes have.1 known.1)
+  nodes-by (node ∷ nodes) have known = (in-by node.row node.value (print_of node) have.0 known.0, nodes-by nodes have.1 known.1)
 
   leaders-by : (leaders : List LeaderAt) → HaveRows region row (rows_led leaders) → Each (IsLeaderBy dp k row) leaders → Each (IsLeaderIn dp k region) leaders
   leaders-by [] have known = tt
-  leaders-by (leader ∷ leaders) have known = (in-by leader.row leader.value leader.rank have.0 known.0, leaders-by leaders have.1 known.1)
+  leaders-by (leader ∷ leaders) have known = (in-by leader.row leader.value leader.print have.0 known.0, leaders-by leaders have.1 known.1)
 
 pub rows-found : (dp : Dp) (k : ℕ) (region : RegionView) (nodes : List Node) → Each (IsNodeIn dp k region) nodes → HaveRows region (held_row region) (rows_in nodes)
 rows-found dp k region [] h = tt
@@ -91,7 +92,7 @@ module _ (base : RegionView) (old now : List Node) (leaders : List LeaderAt) (re
 
     -- the next node as it is read
     pub next-in : (dp : Dp) (k : ℕ) → IsNodeBy dp k (held_row base) node → IsNodeIn dp k region node
-    next-in dp k known = in-by dp k region (held_row base) node.row node.value node.rank here known
+    next-in dp k known = in-by dp k region (held_row base) node.row node.value (print_of node) here known
 
     pub next-is : bare (held_row region) node ≡ bare (held_row base) node
     next-is = ap (λ r. record (bare (held_row base) node) { row = r }) (held-is region node.row (held_row base node.row) here.found)
@@ -113,7 +114,7 @@ module _ (base : RegionView) (old now : List Node) (leaders : List LeaderAt) (re
     -- it stays
     pub given-stays : stay < length now → AreGiven base old (set now stay node) (led_at leaders stay node) region (stay + 1) (i + 1)
     given-stays less =
-        let l : LeaderAt = record { place = stay; row = node.row; value = node.value; rank = node.rank } in
+        let l : LeaderAt = record { place = stay; row = node.row; value = node.value; print = print_of node } in
         let first : rows_in (take (stay + 1) (set now stay node)) ≡ front ++ node.row ∷ [] =
         ap rows_in (take_more_set now stay node less) ∙ map-append (λ (n : Node). n.row) (take stay now) (node ∷ []) in
         let all : front ++ rows_in (drop i old) ≡ rows_in (take (stay + 1) (set now stay node)) ++ rest =

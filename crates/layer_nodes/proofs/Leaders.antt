@@ -14,7 +14,7 @@ use Rattle.dp_laws.specs.Rules.Pruning.{Leader, redirect_within, first_redirect,
 use Rattle.dp_laws.specs.Rules.Reducing.{redirect_by}
 use Rattle.layer_nodes.specs.declared.node.Node.{Node}
 use Rattle.layer_nodes.specs.declared.redirecting.LeaderAt.{LeaderAt}
-use Rattle.layer_nodes.specs.Leading.{IsNodeBy, IsLeaderBy, leader_of, leaders_of, led_at, bare}
+use Rattle.layer_nodes.specs.Leading.{IsNodeBy, IsLeaderBy, leader_of, leaders_of, led_at, print_of, bare}
 
 -- a gap is a small number
 pub gap-small : (dp : Dp) → IsLawful dp → (k : ℕ) (a s : List ℤ) (o : Option ℤ) → IsStateOf dp k a → IsStateOf dp k s → o ≡ dp.gap k a s → IfSome o (λ g. IsSmall g)
@@ -80,7 +80,7 @@ module _ (dp : Dp) (k : ℕ) (row : ℕ → List ℤ) where
   pub leaders-led : (leaders : List LeaderAt) (place : ℕ) (node : Node) (shown : DdNode) → shown.row ≡ row node.row → shown.value ≡ node.value → shown.exact ≡ node.exact
       → leaders_of row (led_at leaders place node) ≡ leaders_past (leaders_of row leaders) place shown
   leaders-led leaders place node shown row_is value exact =
-      let l : LeaderAt = record { place = place; row = node.row; value = node.value; rank = node.rank } in
+      let l : LeaderAt = record { place = place; row = node.row; value = node.value; print = print_of node } in
       let of = leaders_of row in
       let few : (node.exact && not (nat_le MOST_LEADERS (length leaders))) ≡ (shown.exact && not (nat_le MOST_LEADERS (length (of leaders)))) =
       ap₂ (λ b n. b && not (nat_le MOST_LEADERS n)) (sym exact) (sym (length-map leaders (leader_of row))) in
@@ -94,7 +94,7 @@ module _ (dp : Dp) (k : ℕ) (row : ℕ → List ℤ) where
 
   pub each-led : (leaders : List LeaderAt) (place : ℕ) (node : Node) → Each (IsLeaderBy dp k row) leaders → IsNodeBy dp k row node → Each (IsLeaderBy dp k row) (led_at leaders place node)
   each-led leaders place node all one =
-      let l : LeaderAt = record { place = place; row = node.row; value = node.value; rank = node.rank } in
+      let l : LeaderAt = record { place = place; row = node.row; value = node.value; print = print_of node } in
       elim (node.exact && not (nat_le MOST_LEADERS (length leaders))) as (λ b. Each (IsLeaderBy dp k row) (cond b (leaders ++ l ∷ []) leaders)) [
         | true ↦ Each-append (IsLeaderBy dp k row) leaders (l ∷ []) all (one, tt)
         | false ↦ all

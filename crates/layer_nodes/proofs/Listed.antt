@@ -60,8 +60,12 @@ module _ (dp : Dp) (k : ℕ) (region : RegionView) (ways : List Way) (keys : Lis
   listed-nodes laws words = Each-then (IsKeyIn dp k region) (IsKeyNode dp k region) keys (λ key g. (
       let is = held-is region key.row g.live.0 g.live.1 in
       record {
-        found = record { found = g.live.1 ∙ ap (λ (r : List ℤ). Some (Some r)) (sym is); size = laws.sizes.cells k (held_row region key.row) g.state ∙ sym words };
-        with_row = record { state = g.state; ranked = g.rank; near = g.value };
+        row = record {
+          found = record { found = g.live.1 ∙ ap (λ (r : List ℤ). Some (Some r)) (sym is); size = laws.sizes.cells k (held_row region key.row) g.state ∙ sym words };
+          state = g.state;
+        };
+        ranked = g.rank;
+        near = g.value;
       })) h.known
 
   -- in another order

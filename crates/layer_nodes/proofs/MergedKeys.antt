@@ -16,7 +16,7 @@ use Rattle.row_region.specs.Region.{RegionView, IsRow, HasPut}
 use Rattle.row_region.proofs.Callers.{put_row}
 use Rattle.layer_nodes.specs.declared.node.Node.{Node}
 use Rattle.layer_nodes.specs.declared.routing.Route.{Route}
-use Rattle.layer_nodes.specs.Leading.{IsNodeBy, bare}
+use Rattle.layer_nodes.specs.Leading.{bare}
 use Rattle.layer_nodes.specs.Expanding.{key_in, number_at, IsNumbered, node_of}
 use Rattle.layer_nodes.specs.Holding.{HaveRows}
 use Rattle.layer_nodes.specs.Merging.{IsStateIn, row_of_places, greater, lifted, merged_at}
@@ -32,17 +32,10 @@ use Rattle.layer_nodes.proofs.Stored.{each-drop}
 
 -- ---- the row
 
--- the key's row is a state of the layer at depth k
-abbrev pub IsKeyBy : Dp → ℕ → (ℕ → List ℤ) → Key → Type 0
-IsKeyBy dp k row key = IsNodeBy dp k row (key_node key)
-
-pub keys-known : (dp : Dp) (k : ℕ) (region : RegionView) (keys : List Key) → Each (IsKeyNode dp k region) keys → Each (IsKeyBy dp k (held_row region)) keys
-keys-known dp k region keys h = Each-then (IsKeyNode dp k region) (IsKeyBy dp k (held_row region)) keys (λ key one. one.with_row) h
-
 -- the rows of keys are states
 pub key-states : (dp : Dp) (k : ℕ) (region : RegionView) (keys : List Key) → Each (IsKeyNode dp k region) keys → Each (IsStateIn dp k region) (key_rows keys)
 key-states dp k region [] h = tt
-key-states dp k region (key ∷ keys) h = (record { found = h.0.found; state = h.0.with_row.state }, key-states dp k region keys h.1)
+key-states dp k region (key ∷ keys) h = (h.0.row, key-states dp k region keys h.1)
 
 -- keys have the rows of their places
 pub row-of-keys : (dp : Dp) (k : ℕ) (row : ℕ → List ℤ) (keys : List Key) → row_of_places dp k row (key_rows keys) ≡ row_of_keys dp k row keys
@@ -203,7 +196,7 @@ module _ (dp : Dp) (k n : ℕ) (old now new : RegionView) (ways : List Way) (mar
           → nodes ≡ map (node_of ways marks) (take n keys) ++ node ∷ [] → HasMergedKeys dp k n old ways marks keys new routes nodes
       has-merged-keys within merged state best node nodes value lead is list =
           let last = bare_keys held (drop n keys) in
-          let have : HaveRows old held (key_rows keys) = Each-map (λ (key : Key). key.row) (λ (p : ℕ). IsRow old p (held p)) keys (Each-then (IsKeyNode dp k old) (λ (key : Key). IsRow old key.row (held key.row)) keys (λ key h. h.found) within) in
+          let have : HaveRows old held (key_rows keys) = Each-map (λ (key : Key). key.row) (λ (p : ℕ). IsRow old p (held p)) keys (Each-then (IsKeyNode dp k old) (λ (key : Key). IsRow old key.row (held key.row)) keys (λ key h. h.row.found) within) in
           let best_is : best ≡ greatest (lifted dp k (row_of_keys dp k held (drop n keys)) last) = value ∙ ap (λ r. greatest (lifted dp k r last)) merged in
           let all = list ∙ ap (λ m. map (node_of ways marks) (take n keys) ++ m ∷ []) (is ∙ ap₂ (λ b r. record { value = unwrap_or b (pos 0); rank = dp.rank k r; hash = dp.hash k r; suffix = None; parent = None; row = place; decision = 0; first_arc = 0; arcs = 0; exact = false }) best_is merged) in
           let places : rows_in nodes ≡ front ++ place ∷ [] =

@@ -10,7 +10,7 @@ use Rattle.layer_nodes.specs.declared.node.Node.{Node}
 use Rattle.layer_nodes.specs.declared.routing.Route.{Route}
 use Rattle.layer_nodes.specs.declared.routing.StoredArc.{StoredArc}
 use Rattle.layer_nodes.specs.Holding.{AreHeld, places_of}
-use Rattle.layer_nodes.specs.Leading.{IsNodeIn}
+use Rattle.layer_nodes.specs.Leading.{IsNodeIn, print_of}
 use Rattle.layer_nodes.specs.Nodes.{NodeView, shown, shown_from, shown_below, without_arcs}
 use Rattle.layer_nodes.specs.Redirecting.{AreRerouted}
 use Rattle.layer_nodes.specs.Routing.{routed_arcs}
@@ -63,4 +63,4 @@ pub nodes-in : (dp : Dp) (k : ℕ) (region : RegionView) (row : ℕ → List ℤ
     → Each (IsNodeIn dp k region) nodes
 nodes-in dp k region row arcs [] h held = tt
 nodes-in dp k region row arcs (node ∷ nodes) h held =
-    (in-by dp k region row node.row node.value node.rank held.0 (record { state = h.0.state; ranked = h.0.rank; near = h.0.value }), nodes-in dp k region row arcs nodes h.1 held.1)
+    (in-by dp k region row node.row node.value (print_of node) held.0 (record { state = h.0.state; printed = record { rank = h.0.rank; hash = h.0.hash }; near = h.0.value }), nodes-in dp k region row arcs nodes h.1 held.1)

@@ -12,14 +12,14 @@ use Rattle.layer_candidates.specs.declared.way.Way.{Way}
 use Rattle.layer_candidates.specs.HeldRows.{held_row, AreLive, HasExchanged, HasLeft}
 use Rattle.layer_candidates.specs.KeyOrder.{goes_before, key_rows}
 use Rattle.layer_candidates.specs.Pruning.{IsKeyIn, unstruck_keys}
-use Rattle.layer_candidates.specs.Ways.{rows_of}
+use Rattle.layer_candidates.specs.Ways.{IsNearly, rows_of}
 use Rattle.row_region.specs.Region.{RegionView, IsRow}
 use Rattle.layer_nodes.specs.declared.node.Node.{Node}
 use Rattle.layer_nodes.specs.declared.routing.Route.{Route}
 use Rattle.layer_nodes.specs.Expanding.{key_in, mark_at, node_of}
 use Rattle.layer_nodes.specs.Holding.{HaveRows}
-use Rattle.layer_nodes.specs.Leading.{IsNodeIn, bare}
-use Rattle.layer_nodes.specs.Merging.{merged_at}
+use Rattle.layer_nodes.specs.Leading.{bare}
+use Rattle.layer_nodes.specs.Merging.{IsStateIn, merged_at}
 use Rattle.layer_nodes.specs.Routing.{nowhere, route_at}
 use Rattle.layer_nodes.specs.Stored.{rows_in}
 
@@ -31,9 +31,11 @@ key_node key = record { value = key.value; rank = key.rank; hash = 0; suffix = N
 abbrev pub bare_keys : (ℕ → List ℤ) → List Key → List DdNode
 bare_keys held keys = map (bare held) (map key_node keys)
 
--- the region has the row of the key, which is a state of the layer at depth k
-abbrev pub IsKeyNode : Dp → ℕ → RegionView → Key → Type 0
-IsKeyNode dp k region key = IsNodeIn dp k region (key_node key)
+-- the region has the row of the key, which is a state of the layer at depth k, with its rank, and the value leaves room for gaps and rough bounds
+pub record IsKeyNode (dp : Dp) (k : ℕ) (region : RegionView) (key : Key) : Type 0 where
+  pub row : IsStateIn dp k region key.row
+  pub ranked : key.rank ≡ dp.rank k (held_row region key.row)
+  pub near : IsNearly key.value
 
 -- the keys are those of different ways to states of the layer at depth k, whose rows the region has
 pub record AreListed (dp : Dp) (k : ℕ) (region : RegionView) (ways : List Way) (keys : List Key) : Type 0 where

@@ -9,13 +9,23 @@ ghost use Rattle.dp_laws.specs.Rules.Reducing.{redirect_by};
 ghost use Rattle.layer_candidates.specs.HeldRows.{held_row};
 ghost use Rattle.layer_candidates.specs.Ways.{IsNearly};
 ghost use Rattle.layer_nodes.specs.Redirecting.{IsShort};
-ghost use Rattle.layer_nodes.specs.Leading.{IsIn, IsNodeIn, IsLeaderIn, leaders_of, led_at, bare};
+ghost use Rattle.layer_nodes.specs.Leading.{IsIn, IsNodeIn, IsLeaderIn, leaders_of, led_at, print_of, bare};
 
 use crate::node::Node;
 use crate::redirecting::{LeaderAt, Redirect};
-use dp_model::{DpModel, MOST_LEADERS};
+use dp_model::{DpModel, Fingerprint, MOST_LEADERS};
 use layer_candidates::row_of;
 use row_region::Region;
+
+/// The rank and the hash of the node's state.
+fn print_of(node: &Node) -> Fingerprint
+    ensures { result ≡ print_of node.now }
+{
+    Fingerprint {
+        rank: node.rank,
+        hash: node.hash,
+    }
+}
 
 /// A node that stays at the place becomes a leader where it is exact and there are fewer than `MOST_LEADERS`.
 pub(crate) fn lead(leaders: &mut Vec<LeaderAt>, place: u32, node: &Node)
@@ -28,7 +38,7 @@ pub(crate) fn lead(leaders: &mut Vec<LeaderAt>, place: u32, node: &Node)
             place,
             row: node.row,
             value: node.value,
-            rank: node.rank,
+            print: print_of(node),
         });
     }
 }
@@ -52,7 +62,8 @@ fn room(leader: LeaderAt, node: &Node) -> i64
     leader.value - node.value
 }
 
-/// The redirect to the leader, where it dominates the node: its state has a gap to the node's, within the values' difference.
+/// The redirect to the leader, where it dominates the node: its state has a gap to the node's, within the values' difference. The
+/// problem is asked by ranks and hashes first, so most nodes are refused before a row is read.
 fn redirect_at<M: DpModel>(
     model: &M,
     k: usize,
@@ -68,7 +79,10 @@ fn redirect_at<M: DpModel>(
     let most = room(leader, node);
     let a = row_of(region, leader.row);
     let s = row_of(region, node.row);
-    let gap = model.covers_within(k, a, leader.rank, s, node.rank, most);
+    if !model.may_cover(k, a, leader.print, s, print_of(node), most) {
+        return None;
+    }
+    let gap = model.covers_within(k, a, leader.print.rank, s, node.rank, most);
     redirect_by(leader.place, gap)
 }
 

@@ -91,7 +91,8 @@ pub(crate) fn gap_to<M: DpModel>(
 ) -> Option<i64>
     requires state { IsStateOf (M.meaning (M.numbers model.now)) k into.state.now }
     requires rank { into.rank ≡ (M.meaning (M.numbers model.now)).rank k into.state.now }
-    requires node { IsNodeIn (M.meaning (M.numbers model.now)) k region.now node.now }
+    requires node { IsStateIn (M.meaning (M.numbers model.now)) k region.now node.now.row }
+    requires node_rank { node.now.rank ≡ (M.meaning (M.numbers model.now)).rank k (held_row region.now node.now.row) }
     ensures gap { result ≡ (M.meaning (M.numbers model.now)).gap k into.entry.state.now (held_row region.now node.now.row) }
     ensures small { IfSome result (λ g. IsSmall g) }
 {

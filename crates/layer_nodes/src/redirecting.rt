@@ -10,7 +10,7 @@ ghost use Rattle.layer_nodes.specs.Steps.{MayBeLengthened, KeepsNodes};
 
 use crate::layer::Layer;
 use crate::routing::Route;
-use dp_model::{MOST_LEADERS, OutOfMemory};
+use dp_model::{Fingerprint, MOST_LEADERS, OutOfMemory};
 use std::alloc::Global;
 use std::marker::Model;
 
@@ -31,13 +31,14 @@ impl Model for Redirect {
     ghost inverse = { λ l. record { place = l.place; longer = l.longer } };
 }
 
-/// An exact node that dominates later ones: its place among the nodes that stay, with its row's place, value and rank.
+/// An exact node that dominates later ones: its place among the nodes that stay, with its row's place, its value, and the rank and
+/// the hash of its state.
 #[derive(Clone, Copy, Debug)]
 pub(crate) struct LeaderAt {
     pub(crate) place: u32,
     pub(crate) row: u32,
     pub(crate) value: i64,
-    pub(crate) rank: i64,
+    pub(crate) print: Fingerprint,
 }
 
 /// The memory in which a layer is reduced: where the arcs into each of its nodes are redirected, the leaders, and the cells of a

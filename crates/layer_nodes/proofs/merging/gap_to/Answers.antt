@@ -14,11 +14,11 @@ returns-clause-gap g c =
     let dp = g.M.DpModel.meaning (g.M.DpModel.numbers c.args.model.now) in
     let a = c.args in
     c.covers_within.ensures ∙ (ap (within _) (ap (dp.gap a.k a.into.state.now) c.row_of-s.ensures.row)
-    ∙ gap-within-all dp (laws_of g a.model.now) a.k a.into.state.now (held_row a.region.now a.node.now.row) c.requires.state c.requires.node.with_row.state)
+    ∙ gap-within-all dp (laws_of g a.model.now) a.k a.into.state.now (held_row a.region.now a.node.now.row) c.requires.state c.requires.node.state)
 
 pub returns-clause-small : goal.returns-clause-small
 returns-clause-small g c =
     let dp = g.M.DpModel.meaning (g.M.DpModel.numbers c.args.model.now) in
     let a = c.args in
-    gap-within-small dp (laws_of g a.model.now) a.k a.into.state.now (held_row a.region.now a.node.now.row) _ c.covers_within.result c.requires.state c.requires.node.with_row.state
+    gap-within-small dp (laws_of g a.model.now) a.k a.into.state.now (held_row a.region.now a.node.now.row) _ c.covers_within.result c.requires.state c.requires.node.state
     (c.covers_within.ensures ∙ ap (within _) (ap (dp.gap a.k a.into.state.now) c.row_of-s.ensures.row))
