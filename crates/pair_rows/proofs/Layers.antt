@@ -43,6 +43,20 @@ layer-has i k s kept state =
       later_low = later;
     }
 
+-- the rank of a state, as it is told
+pub record ToldRank (k : ℕ) (s : List ℤ) (told : ℤ) : Type 0 where
+  pub is : told ≡ rank_of (drop k s)
+  pub low : pos 0 ≤ℤ told
+  pub high : told ≤ℤ pos (2 ^ 60)
+
+pub told-rank : (i : Instance) (k : ℕ) (s : List ℤ) (told : ℤ) → IsInstance i → IsStateOf (program_of i) k s → told ≡ (program_of i).rank k s → ToldRank k s (to_z w64 (of_z w64 told))
+told-rank i k s told kept state told_is =
+    let low = rank_of-positive (drop k s) in
+    let high = (layer-has i k s kept state).rank in
+    let is : told ≡ rank_of (drop k s) = told_is ∙ rank_of-state i k s state in
+    let read : to_z w64 (of_z w64 told) ≡ rank_of (drop k s) = rw is (to_z-of_z w64 (rank_of (drop k s)) (omega (arith, ints))) in
+    record { is = read; low = omega (arith, ints); high = omega (arith, ints) }
+
 -- the row of the layer's variable
 pub record RowHas (i : Instance) (k : ℕ) (cells : ℕ) : Type 0 where
   pub entries : length (row_at (rows_of (length i.units) i.pairs) k) + suc k ≡ cells

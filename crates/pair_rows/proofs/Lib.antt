@@ -10,3 +10,5 @@ pub mod Summing
 pub mod Handing
 pub mod Mapped
 pub mod Hashing
+pub mod SumsApart
+pub mod ByDistance

@@ -2,13 +2,14 @@
 use Rattle.std.specs.Int.{w64, cast_unsigned, int_wrap}
 use Rattle.std.specs.Prelude.{ℕ, ℤ, pos, ◌+ℤ◌, ◌*ℤ◌, List, [], ◌∷◌}
 
--- where the polynomials are taken: an odd number whose bits are spread
+-- where the polynomials are taken: one more than an odd multiple of 2^16, so that the last 16 bits of a hash are those of the sum of the
+-- benefits, and the other bits are spread
 abbrev pub base : ℤ
-base = pos 0x2545f4914f6cdd1d
+base = pos 0x2545f4914f630001
 
 -- its inverse modulo 2^64
 abbrev pub inverse : ℤ
-inverse = pos 0x59071d96d81ecd35
+inverse = pos 0x36434bb7b09d0001
 
 -- the first number, and the base times the polynomial of the others
 abbrev pub polynomial : List ℤ → ℤ

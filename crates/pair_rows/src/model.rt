@@ -1,16 +1,17 @@
 //! The calls of `DpModel` for the program of the rows. What each call asks and gives is what `DpModel` says.
 
-use crate::hashes::{hash_of, next_hash};
+use crate::hashes::{hash_of, least_distance, next_hash};
 use crate::limits::are_within;
-use crate::row::{extend_row, is_zero_row, step_gain, write_step};
+use crate::row::{extend_row, is_zero_row, may_be_within, step_gain, write_step};
 use crate::rows::PairRows;
 use benefit_rows::{gap, gap_within, merge_into, rank};
-use dp_model::Extended;
+use dp_model::{Extended, Fingerprint};
 
 impl PairRows {
-    ghost use Rattle.std.specs.Prelude.{◌≡◌, ◌+◌, ◌<◌, ◌≤◌, pos, length, take, replicate, IsSome, IsNone, IfSome, IsTrue, is_some, List, ℤ};
+    ghost use Rattle.std.specs.Prelude.{◌≡◌, ◌+◌, ◌<◌, ◌≤◌, pos, length, take, replicate, false, None, IsSome, IsNone, IfSome, IsTrue, is_some, List, ℤ};
     ghost use Rattle.dp_model.specs.Dp.{IsAllowed};
     ghost use Rattle.dp_model.specs.Gaps.{IsStateOf, within};
+    ghost use Rattle.dp_model.specs.Fingerprints.{IsFingerprint};
     ghost use Rattle.pair_rows.specs.Shown.{program_in};
 
     /// The number of variables.
@@ -119,6 +120,26 @@ impl PairRows {
         ensures { result ≡ within most ((program_in self.now).gap k a.now s.now) }
     {
         gap_within(&a[k..], rank_a, &s[k..], rank_s, most)
+    }
+
+    /// Whether there may be a gap from `a` to `s` of at most `most`, by the ranks and the hashes of both.
+    pub fn may_cover(
+        &self,
+        k: usize,
+        _a: &[i64],
+        of_a: Fingerprint,
+        _s: &[i64],
+        of_s: Fingerprint,
+        most: i64,
+    ) -> bool
+        requires covering { IsStateOf (program_in self.now) k _a.now }
+        requires covering_print { IsFingerprint (program_in self.now) k _a.now of_a }
+        requires state { IsStateOf (program_in self.now) k _s.now }
+        requires print { IsFingerprint (program_in self.now) k _s.now of_s }
+        ensures { result ≡ false → within most ((program_in self.now).gap k _a.now _s.now) ≡ None }
+    {
+        let distance = least_distance(of_a.hash, of_s.hash);
+        may_be_within(of_a.rank, of_s.rank, distance, most)
     }
 
     /// Takes decision `d` in state `s` in one pass, by the rank of `s`.

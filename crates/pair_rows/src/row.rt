@@ -1,8 +1,8 @@
 //! One pass over a row of benefits and a row of shifts.
 
-ghost use Rattle.std.specs.Prelude.{◌≡◌, suc, ◌+◌, ◌^◌, pos, ◌+ℤ◌, ◌-ℤ◌, ◌≤ℤ◌, ◌++◌, length, replicate, slice_index_or, take, drop, IsTrue};
+ghost use Rattle.std.specs.Prelude.{◌≡◌, suc, ◌+◌, ◌^◌, ℤ, pos, ◌+ℤ◌, ◌-ℤ◌, ◌≤ℤ◌, false, None, List, ◌++◌, length, replicate, slice_index_or, take, drop, IsTrue};
 ghost use Rattle.std.specs.Int.{int_min};
-ghost use Rattle.benefit_rows.specs.Benefits.{choice_gain, rank_of, size_of, sums_of};
+ghost use Rattle.benefit_rows.specs.Benefits.{choice_gain, differences, gap_of, rank_of, size_of, sums_of, where_at_most};
 ghost use Rattle.pair_rows.specs.Shifts.{half_lost};
 ghost use Rattle.pair_rows.specs.Instance.{unit_most, units_most};
 ghost use Rattle.pair_rows.specs.Limits.{UnitFits, units_fit};
@@ -167,4 +167,18 @@ pub(crate) fn is_at_most(number: i64, limit: i64) -> bool
     ensures { result ≡ is_within number limit }
 {
     -limit <= number && number <= limit
+}
+
+/// Whether the gap between two rows of one length may be at most `most`, by the ranks of both and a distance that they have at least.
+pub(crate) fn may_be_within(from_rank: i64, to_rank: i64, least_distance: i64, most: i64) -> bool
+    requires from_low { pos 0 ≤ℤ from_rank }
+    requires from_high { from_rank ≤ℤ pos (2 ^ 60) }
+    requires to_low { pos 0 ≤ℤ to_rank }
+    requires to_high { to_rank ≤ℤ pos (2 ^ 60) }
+    ensures { (from to : List ℤ) → length from ≡ length to → from_rank ≡ rank_of from → to_rank ≡ rank_of to
+        → least_distance ≤ℤ rank_of (differences from to) → result ≡ false → where_at_most most (gap_of from to) ≡ None }
+{
+    // A gap is half of how much greater the second rank is and the distance. So it is at least the former, and it is at most the second rank.
+    let more = to_rank - from_rank;
+    more <= most && least_distance <= 2 * most.min(to_rank) - more
 }

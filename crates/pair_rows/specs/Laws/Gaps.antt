@@ -37,7 +37,7 @@ state_split i k s c kept state along = gain_split i k s c kept.whole (state-is i
 some-is : (g h : ℤ) → Some g ≡ Some h → g ≡ h
 some-is g h e = cc
 
-same-cells : (i : Instance) (k : ℕ) (a s : List ℤ) → IsStateOf (program_of i) k a → IsStateOf (program_of i) k s → length (drop k a) ≡ length (drop k s)
+pub same-cells : (i : Instance) (k : ℕ) (a s : List ℤ) → IsStateOf (program_of i) k a → IsStateOf (program_of i) k s → length (drop k a) ≡ length (drop k s)
 same-cells i k a s one other =
     omega (arith, length-drop k a, length-drop k s, (state-is i k a one.test).cells, (state-is i k s other.test).cells)
 
