@@ -62,7 +62,7 @@ signed-of (negsuc m) fits = record { times = negsuc 0; is = omega (arith, ints);
 as-signed : (n : ℕ) → n < 2 ^ 16 → AsSigned (to_z w16 n) n
 as-signed n h = subst (AsSigned (to_z w16 n)) (of_z-to_z w16 n h) (signed-of (to_z w16 n) (omega (arith, ints)))
 
--- a number of at most half of 2^16 in size is the least of those that differ from it by multiples of 2^16
+-- a number of at most half of 2^16 in size is no larger than one that differs from it by a multiple of 2^16
 nearest : (z x times most : ℤ) → x ≡ z +ℤ (times *ℤ pos (2 ^ 16)) → pos 0 ≤ℤ (z +ℤ pos (2 ^ 15)) → z ≤ℤ pos (2 ^ 15) → pos 0 ≤ℤ (x +ℤ most) → x ≤ℤ most
     → pos (unsigned_abs z) ≤ℤ most
 nearest z x times most is low high above below = omega (arith, ints)
@@ -71,6 +71,7 @@ nearest z x times most is low high above below = omega (arith, ints)
 abbrev pub sub-words : ℕ → ℕ → ℕ
 sub-words hash other = ((hash + (2 ^ 64 - other)) % 2 ^ 64) % 2 ^ 16
 
+-- two numbers differ by what is computed from their last 64 bits, and a multiple of 2^16
 differ : (p q : ℤ) (hash other : ℕ) → other < 2 ^ 64 → LastBits p hash → LastBits q other → (times : ℤ) × (p -ℤ q ≡ pos (sub-words hash other) +ℤ (times *ℤ pos (2 ^ 16)))
 differ p q hash other small first second =
     let sum : ℕ = hash + (2 ^ 64 - other) in
