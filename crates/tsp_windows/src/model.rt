@@ -14,7 +14,7 @@ ghost use Rattle.tsp_windows.specs.Shown.{instance_in};
 use crate::instance::TspWindows;
 use crate::parts::{MOST_WORDS, few, pending_of, positions_of, time_of};
 use crate::ways::{least_leg, ways_within};
-use dp_model::{DpModel, Extended, fold};
+use dp_model::{DpModel, Extended, Fingerprint, fold};
 use node_sets::{
     clear, contains, is_empty, is_set, is_subset, least, union_with, words_for, write_one,
     write_others, write_split,
@@ -421,6 +421,20 @@ impl DpModel for TspWindows {
         most: i64,
     ) -> Option<i64> {
         gap_within(self.nodes, a, rank_a, s, rank_s, most)
+    }
+
+    // `covers_within` begins with the ranks, and hashes of tours tell nothing else.
+    #[inline(always)]
+    fn may_cover(
+        &self,
+        _k: usize,
+        _a: &[i64],
+        _of_a: Fingerprint,
+        _s: &[i64],
+        _of_s: Fingerprint,
+        _most: i64,
+    ) -> bool {
+        true
     }
 
     fn rough(&self, k: usize, s: &[i64]) -> Option<i64> {

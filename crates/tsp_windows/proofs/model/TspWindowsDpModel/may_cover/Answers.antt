@@ -1,4 +1,4 @@
-use Rattle.std.proofs.Common.{absurd, true≢false}
+use Rattle.std.proofs.Common.{true≢false}
 use Rattle.tsp_windows.proofs.model.TspWindowsDpModel.may_cover.Goals as goal
 
 -- the answer is never false
